@@ -1,0 +1,12 @@
+pub mod Questions
+pub mod Openings
+pub mod Zero
+pub mod Weights
+pub mod Weighing
+pub mod Sums
+pub mod SumsAsk
+pub mod LooksUp
+pub mod OpeningLaws
+pub mod WeightedLaws
+pub mod SumsLaws
+pub mod LooksUpLaws

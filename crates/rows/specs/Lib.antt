@@ -1,0 +1,10 @@
+pub mod Limits
+pub mod Faults
+pub mod Firsts
+pub mod Shapes
+pub mod Made
+pub mod Points
+pub mod PointsMade
+pub mod WrittenMade
+pub mod ExpressionsMade
+pub mod Wholes
