@@ -4,3 +4,10 @@ pub mod WeightedSums
 pub mod Asked
 pub mod SumsExactly
 pub mod Listed
+pub mod Handing
+pub mod Divisions
+pub mod LayerAnswers
+pub mod CutsExactly
+pub mod CutAnswers
+pub mod SplitsExactly
+pub mod SplitAnswers

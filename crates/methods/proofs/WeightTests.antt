@@ -13,7 +13,8 @@ use Rattle.std.specs.declared.result.Result.the-variants.{Ok, Err}
 use Rattle.rows.specs.declared.fault.Fault.{Fault}
 use Rattle.rows.specs.declared.numbers.Numbers.{Numbers}
 use Rattle.rows.specs.Faults.{Said, faultOf, _andThen_, check}
-use Rattle.methods.specs.Weights.{mostWeight, wordAt, rangeSays, weightsSay}
+use Rattle.rows.specs.Bytes.{wordAt}
+use Rattle.methods.specs.Weights.{mostWeight, rangeSays, weightsSay}
 use Rattle.rows.proofs.Chains.{both, check-true, checked, goes}
 
 next-word : (at i : ℕ) → at + 2 * i + 2 ≡ at + 2 * (i + 1)

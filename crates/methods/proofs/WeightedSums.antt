@@ -19,7 +19,8 @@ use Rattle.rows.specs.Shapes.{itemOf, Within}
 use Rattle.rows.proofs.Bounds.{Bounded, bounded, product-bounded, sum-bounded, bounded-fits, Accumulated, turn}
 use Rattle.methods.specs.Openings.{mostFacts}
 use Rattle.methods.specs.Weighing.{Weighable}
-use Rattle.methods.specs.Weights.{mostWeight, wordAt, weighted}
+use Rattle.rows.specs.Bytes.{wordAt}
+use Rattle.methods.specs.Weights.{mostWeight, weighted}
 
 -- how large one product is
 abbrev pub mostProduct : ℕ

@@ -6,7 +6,15 @@ pub mod Weighing
 pub mod Sums
 pub mod SumsAsk
 pub mod LooksUp
+pub mod Layers
+pub mod Cuts
+pub mod CutsAsk
+pub mod Splits
+pub mod SplitsAsk
 pub mod OpeningLaws
 pub mod WeightedLaws
 pub mod SumsLaws
 pub mod LooksUpLaws
+pub mod LayerLaws
+pub mod CutLaws
+pub mod SplitLaws

@@ -16,7 +16,8 @@ use Rattle.rows.specs.Shapes.{itemOf}
 use Rattle.rows.specs.Wholes.{eqZ}
 use Rattle.methods.specs.Openings.{Begun, opened}
 use Rattle.methods.specs.Questions.{Question, Meaning}
-use Rattle.methods.specs.Weights.{mostWeight, wordAt, rangeSays, weightsSay, weighted}
+use Rattle.rows.specs.Bytes.{wordAt}
+use Rattle.methods.specs.Weights.{mostWeight, rangeSays, weightsSay, weighted}
 
 -- where the multipliers of the facts begin: behind the goal's
 abbrev pub weightsFrom : ℕ

@@ -6,7 +6,8 @@ use Rattle.rows.specs.declared.limits.Limit.the-variants.{RowNumber}
 use Rattle.rows.specs.declared.numbers.Numbers.{Numbers}
 use Rattle.rows.specs.Limits.{magnitudeOf}
 use Rattle.rows.specs.Shapes.{Within}
-use Rattle.methods.specs.Weights.{mostWeight, wordAt}
+use Rattle.rows.specs.Bytes.{wordAt}
+use Rattle.methods.specs.Weights.{mostWeight}
 
 -- the goal is a row, and its multiplier is there and in range
 pub record Comparable (certificate : List ℕ) (goal : Numbers) : Type 0 where

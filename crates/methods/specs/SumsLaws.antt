@@ -29,7 +29,8 @@ use Rattle.methods.specs.OpeningLaws.{opened-yes, opened-place}
 use Rattle.methods.specs.Questions.{Question, Lawful}
 use Rattle.methods.specs.Sums.{weightsFrom, scaled, differs, columnsSay, boundSays, sumsSay, multipliersSay}
 use Rattle.methods.specs.WeightedLaws.{columnsTo, sum-met, sum-scaled}
-use Rattle.methods.specs.Weights.{mostWeight, wordAt, rangeSays, weightsSay, weighted}
+use Rattle.rows.specs.Bytes.{wordAt}
+use Rattle.methods.specs.Weights.{mostWeight, rangeSays, weightsSay, weighted}
 
 -- what a yes of the tests behind the opening ones says of each of them
 pub record Passed (facts : List Numbers) (goal : Numbers) (certificate : List ℕ) : Type 0 where
@@ -60,10 +61,10 @@ passed facts goal certificate e =
 le-trans : (a b c : ℤ) → a ≤ℤ b → b ≤ℤ c → a ≤ℤ c
 le-trans a b c h k = omega (arith, ints)
 
-goal-least : (certificate : List ℕ) → rangeSays 1 certificate 0 ≡ Ok tt → 0 < wordAt certificate 0
-goal-least certificate e =
-    let p = and-parts (leb 1 (wordAt certificate 0)) (leb (wordAt certificate 0) mostWeight) (check-true _ _ e) in
-    leb-true 1 (wordAt certificate 0) (p .0)
+pub range-least : (bytes : List ℕ) (at : ℕ) → rangeSays 1 bytes at ≡ Ok tt → 0 < wordAt bytes at
+range-least bytes at e =
+    let p = and-parts (leb 1 (wordAt bytes at)) (leb (wordAt bytes at) mostWeight) (check-true _ _ e) in
+    leb-true 1 (wordAt bytes at) (p .0)
 
 sums-sound : (facts : List Numbers) (goal : Numbers) (certificate : List ℕ) → Passed facts goal certificate → (point : List ℤ) → MeetsAll point facts → Meets point goal
 unfolding dot
@@ -74,10 +75,10 @@ sums-sound facts goal certificate y point m =
     let d = sum-met columns (omega arith) certificate weightsFrom facts point m in
     let e = subst (λ (z : ℤ). z ≤ℤ weighted columns certificate weightsFrom facts) s d in
     let b = subst (λ (z : ℤ). weighted columns certificate weightsFrom facts ≤ℤ (pos g *ℤ z)) (item-bound goal columns (omega arith)) (y .bound-shown) in
-    times-cancel g (dotTo columns (goal .coefficients) point) (goal .bound) (goal-least certificate (y .goal-range)) (le-trans _ _ _ e b)
+    times-cancel g (dotTo columns (goal .coefficients) point) (goal .bound) (range-least certificate 0 (y .goal-range)) (le-trans _ _ _ e b)
 
 -- where the faults stand
-range-place : (least : ℕ) (bytes : List ℕ) (at : ℕ) (f : Fault) → rangeSays least bytes at ≡ Err f → f .place ≡ at
+pub range-place : (least : ℕ) (bytes : List ℕ) (at : ℕ) (f : Fault) → rangeSays least bytes at ≡ Err f → f .place ≡ at
 range-place least bytes at f e = checked-at (leb least (wordAt bytes at) && leb (wordAt bytes at) mostWeight) e
   where
     checked-at : (test : Bool) → check test (faultOf MultiplierRange at 0 0) ≡ Err f → f .place ≡ at

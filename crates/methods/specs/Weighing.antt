@@ -8,7 +8,8 @@ use Rattle.rows.specs.declared.numbers.Numbers.{Numbers}
 use Rattle.rows.specs.Limits.{magnitudeOf}
 use Rattle.rows.specs.Shapes.{Within}
 use Rattle.methods.specs.Openings.{mostFacts}
-use Rattle.methods.specs.Weights.{mostWeight, wordAt}
+use Rattle.rows.specs.Bytes.{wordAt}
+use Rattle.methods.specs.Weights.{mostWeight}
 
 -- few facts, all of them rows, with a multiplier in range for each from `at` on
 pub record Weighable (bytes : List ℕ) (at : ℕ) (facts : List Numbers) : Type 0 where

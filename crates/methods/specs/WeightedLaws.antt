@@ -14,7 +14,8 @@ use Rattle.rows.specs.Limits.{columns}
 use Rattle.rows.specs.Shapes.{itemOf, dotTo}
 use Rattle.rows.proofs.Items.{item-column, item-bound}
 use Rattle.rows.proofs.Ring.{+ℤ-*ℤ, *ℤ-assoc, *ℤ-+ℤ, times-le}
-use Rattle.methods.specs.Weights.{wordAt, weighted}
+use Rattle.rows.specs.Bytes.{wordAt}
+use Rattle.methods.specs.Weights.{weighted}
 
 -- the sum, over the first n columns, of the column's weighted sum × the point's value
 pub columnsTo : ℕ → List ℕ → ℕ → List Numbers → List ℤ → ℤ

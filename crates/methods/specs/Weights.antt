@@ -9,15 +9,12 @@ use Rattle.std.specs.declared.result.Result.the-variants.{Ok, Err}
 use Rattle.rows.specs.declared.fault.FaultKind.the-variants.{MultiplierRange}
 use Rattle.rows.specs.declared.numbers.Numbers.{Numbers}
 use Rattle.rows.specs.Faults.{Said, faultOf, _andThen_, check}
+use Rattle.rows.specs.Bytes.{wordAt}
 use Rattle.rows.specs.Shapes.{itemOf}
 
 -- the greatest multiplier, and the greatest divisor
 abbrev pub mostWeight : ℕ
 mostWeight = 10000
-
--- the number in two bytes, the high one first
-abbrev pub wordAt : List ℕ → ℕ → ℕ
-wordAt bytes at = 256 * getD bytes at 0 + getD bytes (at + 1) 0
 
 -- the number there lies between `least` and the greatest multiplier
 abbrev pub rangeSays : ℕ → List ℕ → ℕ → Said

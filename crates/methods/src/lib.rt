@@ -1,12 +1,17 @@
 // Proof methods: what one is, the multiplier method and the look-up.
 
+pub mod cut;
+pub mod layer;
 pub mod limits;
 pub mod look_up;
 pub mod method;
 pub mod multipliers;
 mod opening;
+pub mod split;
 mod weights;
 
+pub use cut::Cut;
 pub use look_up::LookUp;
 pub use method::ProofMethod;
 pub use multipliers::Multipliers;
+pub use split::Split;

@@ -5,7 +5,6 @@ ghost use Rattle.methods.specs.Questions.{asked, YesExactly};
 ghost use Rattle.methods.specs.Sums.{weightsFrom, scaled, columnsSay, boundSays, sumsSay, multipliersSay, MultipliersYes};
 ghost use Rattle.methods.specs.SumsAsk.{Comparable};
 ghost use Rattle.methods.specs.Weighing.{Weighable};
-ghost use Rattle.methods.specs.Weights.{wordAt};
 ghost use Rattle.rows.specs.Limits.{columns, items};
 ghost use Rattle.methods.specs.SumsLaws.{multipliersLawful};
 ghost use lib.ListN.{length, take};
@@ -17,11 +16,11 @@ use crate::opening::opening;
 use crate::weights::range_test;
 use crate::weights::weighted_sum;
 use crate::weights::weights_test;
-use crate::weights::word;
 use rows::Answer;
 use rows::Fault;
 use rows::FaultKind;
 use rows::Numbers;
+use rows::bytes::word_at;
 use rows::limits::BOUND_ITEM;
 use rows::limits::COLUMNS;
 
@@ -38,7 +37,7 @@ fn scaled_item(goal: &Numbers, certificate: &[u8], item: usize) -> i64
     requires { ⌜ item < items ⌝ }
     ensures { λ r. ⌜ r ≡ scaled (now (goal .entry)) (now (certificate .entry)) item ⌝ }
 {
-    let weight = i64::from(word(certificate, 0));
+    let weight = i64::from(word_at(certificate, 0));
     let number = goal.item(item);
     weight * number
 }

@@ -1,7 +1,7 @@
 // Two-byte numbers of a certificate, and the weighted sum of facts.
 ghost use Prim.Native.Nat.{ℕ, _+_, _*_, _<_, _≤_};
 ghost use Rattle.methods.specs.Weighing.{Weighable};
-ghost use Rattle.methods.specs.Weights.{wordAt, rangeSays, weightsSay, weighted};
+ghost use Rattle.methods.specs.Weights.{rangeSays, weightsSay, weighted};
 ghost use Rattle.rows.specs.Limits.{items};
 ghost use lib.ListN.{length};
 ghost use mathlib.Core.Path.{_≡_};
@@ -10,21 +10,13 @@ use rows::Answer;
 use rows::Fault;
 use rows::FaultKind;
 use rows::Numbers;
-
-// The number in two bytes, the high one first.
-pub(crate) fn word(bytes: &[u8], at: usize) -> u16
-    requires { ⌜ at + 1 < length (now bytes) ⌝ }
-    ensures { λ r. ⌜ r ≡ wordAt (now (bytes .entry)) at ⌝ }
-{
-    256 * u16::from(bytes[at]) + u16::from(bytes[at + 1])
-}
+use rows::bytes::word_at;
 
 // Whether the number there lies between `least` and the greatest multiplier.
 pub(crate) fn range_test(bytes: &[u8], at: usize, least: u16) -> Answer
-    requires { ⌜ at + 1 < length (now bytes) ⌝ }
     ensures { λ r. ⌜ r ≡ rangeSays least (now (bytes .entry)) at ⌝ }
 {
-    let number = word(bytes, at);
+    let number = word_at(bytes, at);
     if number < least || number > MOST_WEIGHT {
         return Err(Fault::at(FaultKind::MultiplierRange, at));
     }
@@ -50,7 +42,7 @@ pub(crate) fn weighted_sum(bytes: &[u8], at: usize, facts: &[Numbers], item: usi
 {
     let mut sum: i64 = 0;
     for (i, fact) in facts.iter().enumerate() {
-        let weight = i64::from(word(bytes, at + 2 * i));
+        let weight = i64::from(word_at(bytes, at + 2 * i));
         let number = fact.item(item);
         sum += weight * number;
     }

@@ -49,3 +49,13 @@ first-none test (suc n) e k l =
     or-none None true m h = let z : _≡_ {A = ℕ} 0 1 = cc in absurd (omega arith)
     or-none None false m h = (refl, refl)
     or-none (Some i) b m h = let z : _≡_ {A = ℕ} 0 1 = cc in absurd (omega arith)
+
+-- a first is one of the numbers below
+pub first-some : (test : ℕ → Bool) (n i : ℕ) → firstBelow test n ≡ Some i → i < n
+first-some test zero i e = let z : _≡_ {A = ℕ} 0 1 = cc in absurd (omega arith)
+first-some test (suc n) i e = from (firstBelow test n) (test n) (λ k h. first-some test n k h) e
+  where
+    from : (o : Option ℕ) (b : Bool) → ((k : ℕ) → o ≡ Some k → k < n) → orElse o (cond b (Some n) None) ≡ Some i → i < suc n
+    from (Some k) b h x = let s : k ≡ i = cc in let l = h k refl in omega arith
+    from None true h x = let s : n ≡ i = cc in omega arith
+    from None false h x = let z : _≡_ {A = ℕ} 0 1 = cc in absurd (omega arith)

@@ -1,6 +1,7 @@
 -- The items of a row: its columns, then its bound.
 use Prim.Native.Nat.{ℕ, _<_, _≤_}
 use mathlib.Core.Path.{_≡_, sym, _∙_, ap}
+use mathlib.Core.List.{List}
 use mathlib.Core.Bool.{true}
 use lib.Dec.{ltb}
 use lib.ListN.{getD}
@@ -21,3 +22,7 @@ item-bound row k l = cond-false (ltb k columns) (getD (row .coefficients) k (pos
 -- where all numbers of a row lie within a limit, its coefficients do
 pub column-within : (most : ℕ) (row : Numbers) → Within most row → ValuesWithin most (row .coefficients)
 column-within most row w k l = sym (ap (within most) (item-column row k l)) ∙ w k (omega arith)
+
+-- numbers with equal parts are equal
+pub same-numbers : (cs ds : List ℤ) (b d : ℤ) → cs ≡ ds → b ≡ d → _≡_ {A = Numbers} (record { coefficients = cs; bound = b }) (record { coefficients = ds; bound = d })
+same-numbers cs ds b d e f = rw (e, f)

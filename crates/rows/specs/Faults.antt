@@ -1,5 +1,5 @@
 -- What each fault is called by number, what its place, depth and item hold, and how a fault is made.
-use Prim.Native.Nat.{ℕ}
+use Prim.Native.Nat.{ℕ, _+_, _-_, _^_, _<_, min}
 use mathlib.Core.Path.{_≡_}
 use mathlib.Core.Bool.{Bool, cond}
 use Rattle.std.specs.declared.option.Option.{Option}
@@ -135,3 +135,23 @@ check test f = cond test (Ok tt) (Err f)
 abbrev pub unlessFound : FaultKind → Option ℕ → Said
 unlessFound kind None = Ok tt
 unlessFound kind (Some item) = Err (faultOf kind 0 0 item)
+
+-- a fault of the method below, as its layer reports it: its place further on by the offset of the lower certificate, its
+-- depth one more, which stops at the largest that its type holds
+abbrev pub raised : ℕ → Fault → Fault
+raised offset f = record { kind = f .kind; place = f .place + offset; depth = min (f .depth + 1) 255; item = f .item }
+
+-- the answer of the method below, as its layer reports it
+abbrev pub moved : ℕ → Said → Said
+moved offset (Ok u) = Ok u
+moved offset (Err f) = Err (raised offset f)
+
+-- the fault's place, moved by the offset, is one that an offset can name
+abbrev pub Movable : ℕ → Said → Type 0
+Movable offset (Ok u) = Unit {0}
+Movable offset (Err f) = f .place + offset < 2 ^ 64
+
+-- the same with the place, too, stopping at the largest that its type holds
+abbrev pub movedWithin : Said → ℕ → Said
+movedWithin (Ok u) offset = Ok u
+movedWithin (Err f) offset = Err (record { kind = f .kind; place = min (f .place + offset) (2 ^ 64 - 1); depth = min (f .depth + 1) 255; item = f .item })

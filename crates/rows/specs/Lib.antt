@@ -8,3 +8,4 @@ pub mod PointsMade
 pub mod WrittenMade
 pub mod ExpressionsMade
 pub mod Wholes
+pub mod Bytes

@@ -1,5 +1,5 @@
 // What a refused call, reader or question says.
-ghost use Rattle.rows.specs.Faults.{numberOf, faultOf};
+ghost use Rattle.rows.specs.Faults.{numberOf, faultOf, moved as movedBy, movedWithin, Movable};
 ghost use mathlib.Core.Path.{_≡_};
 
 // Every fault of the product, by what is wrong.
@@ -129,3 +129,24 @@ impl Fault {
 
 // What a question, or a call that answers no value, says.
 pub type Answer = Result<(), Fault>;
+
+// The answer of the method below, as its layer reports it: a fault's place moves by the offset of the lower certificate
+// and its depth rises by one; both stop at the largest that their types hold.
+pub fn moved(answer: Answer, offset: usize) -> Answer
+    ensures value { λ r. ⌜ r ≡ movedWithin answer offset ⌝ }
+    ensures exact { λ r. ⌜ (Movable offset answer → r ≡ movedBy offset answer) ⌝ }
+{
+    match answer {
+        Ok(()) => Ok(()),
+        Err(fault) => {
+            let place = fault.place.saturating_add(offset);
+            let depth = fault.depth.saturating_add(1);
+            Err(Fault {
+                kind: fault.kind,
+                place,
+                depth,
+                item: fault.item,
+            })
+        }
+    }
+}

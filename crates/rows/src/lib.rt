@@ -1,5 +1,6 @@
 // Rows of whole numbers, the limits on them, and the faults of the product.
 
+pub mod bytes;
 pub mod expression;
 pub mod fault;
 pub mod limits;
@@ -12,6 +13,7 @@ pub use expression::Expression;
 pub use fault::Answer;
 pub use fault::Fault;
 pub use fault::FaultKind;
+pub use fault::moved;
 pub use limits::Limit;
 pub use numbers::Numbers;
 pub use point::Point;

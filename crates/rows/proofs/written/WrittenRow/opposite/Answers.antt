@@ -14,6 +14,7 @@ use Rattle.rows.specs.declared.limits.Limit.the-variants.{RowNumber, WrittenNu
 use Rattle.rows.specs.Limits.{columns, magnitudeOf, within}
 use Rattle.rows.specs.WrittenMade.{TurnsRound}
 use Rattle.rows.proofs.Bounds.{Bounded, bounded}
+use Rattle.rows.proofs.Items.{same-numbers}
 use Rattle.rows.proofs.Opposites.{opposite-turns, opposite-within}
 use Rattle.rows.proofs.written.WrittenRow.opposite.Needs as need
 
@@ -27,15 +28,12 @@ sub-numbers-2 c =
     let b = bounded (magnitudeOf WrittenNumber) (c .args .self .now .numbers .bound) (c .args .self .now .held columns (omega arith)) in
     omega (arith, ints)
 
-both : (cs ds : List ℤ) (b d : ℤ) → cs ≡ ds → b ≡ d → _≡_ {A = Numbers} (record { coefficients = cs; bound = b }) (record { coefficients = ds; bound = d })
-both cs ds b d e f = rw (e, f)
-
 -- the numbers that the code makes are the opposite's
 made : (row : Numbers) (cs : List ℤ) → within (magnitudeOf WrittenNumber) (row .bound) ≡ true → cs ≡ oppositeOf row .coefficients → _≡_ {A = Numbers} (record { coefficients = cs; bound = toZ w64 (ofZ w64 (toZ w64 (ofZ w64 (pos 0 -ℤ toZ w64 (ofZ w64 (row .bound)))) -ℤ pos 1)) }) (oppositeOf row)
 made row cs w e =
     let b = bounded (magnitudeOf WrittenNumber) (row .bound) w in
     let v : toZ w64 (ofZ w64 (toZ w64 (ofZ w64 (pos 0 -ℤ toZ w64 (ofZ w64 (row .bound)))) -ℤ pos 1)) ≡ negℤ (row .bound) -ℤ pos 1 = omega (arith, ints) in
-    both cs (oppositeOf row .coefficients) _ _ e v
+    same-numbers cs (oppositeOf row .coefficients) _ _ e v
 
 pub within-limit-requires : need.within-limit-requires
 within-limit-requires c κs =
