@@ -90,40 +90,37 @@ pub struct Fault {
 }
 
 impl Fault {
+    // A fault at a byte and an item; no layer lies above it.
+    fn new(kind: FaultKind, place: usize, item: u8) -> Fault
+        ensures { λ r. ⌜ r ≡ faultOf kind place 0 item ⌝ }
+    {
+        Fault {
+            kind,
+            place,
+            depth: 0,
+            item,
+        }
+    }
+
     // A fault that names nothing but itself.
     pub fn of(kind: FaultKind) -> Fault
         ensures { λ r. ⌜ r ≡ faultOf kind 0 0 0 ⌝ }
     {
-        Fault {
-            kind,
-            place: 0,
-            depth: 0,
-            item: 0,
-        }
+        Fault::new(kind, 0, 0)
     }
 
     // A fault at a byte.
     pub fn at(kind: FaultKind, place: usize) -> Fault
         ensures { λ r. ⌜ r ≡ faultOf kind place 0 0 ⌝ }
     {
-        Fault {
-            kind,
-            place,
-            depth: 0,
-            item: 0,
-        }
+        Fault::new(kind, place, 0)
     }
 
     // A fault of one number of a row, by its item.
     pub fn with_item(kind: FaultKind, item: u8) -> Fault
         ensures { λ r. ⌜ r ≡ faultOf kind 0 0 item ⌝ }
     {
-        Fault {
-            kind,
-            place: 0,
-            depth: 0,
-            item,
-        }
+        Fault::new(kind, 0, item)
     }
 }
 

@@ -37,7 +37,8 @@ impl WrittenRow {
     pub fn is_met(&self, point: &Point) -> bool
         ensures { λ r. ⌜ Decides r (Meets (now (point .entry) .values) (now (self .entry) .numbers)) ⌝ }
     {
-        point.dot(&self.numbers.coefficients) <= self.numbers.bound
+        let row = self.numbers();
+        point.dot(&row.coefficients) <= row.bound
     }
 
     // The opposite row: a point meets it exactly where it does not meet this one.
