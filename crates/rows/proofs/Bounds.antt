@@ -102,3 +102,10 @@ dot-bounded (suc k) a b cs vs ca vb =
     let h = dot-bounded k a b cs vs (λ i l. ca i (omega arith)) (λ i l. vb i (omega arith)) in
     let p = product-bounded a b (getD cs k (pos 0)) (getD vs k (pos 0)) (bounded a _ (ca k (omega arith))) (bounded b _ (vb k (omega arith))) in
     rw (sym (add-one k)) (sum-bounded k (a * b) _ _ h p)
+
+-- a bounded number as it is passed to a function, to its bits and back
+pub passed-bounded : (most more : ℕ) (z : ℤ) → most ≤ more → more < 2 ^ 63 → Bounded most z → (negℤ (pos more) ≤ℤ toZ w64 (ofZ w64 z)) × (toZ w64 (ofZ w64 z) ≤ℤ pos more)
+passed-bounded most more z l h b =
+    let lo = b .low in
+    let hi = b .high in
+    (omega (arith, ints, lo, hi), omega (arith, ints, lo, hi))

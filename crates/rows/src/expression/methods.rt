@@ -1,6 +1,9 @@
 // Making an expression, reading it, and its value at a point.
 ghost use Rattle.rows.specs.ExpressionsMade.{ExpressionFrom};
 ghost use Rattle.rows.specs.Shapes.{valueOf};
+ghost use Rattle.rows.specs.Points.{dotLimit};
+ghost use lib.IntN.{pos, negℤ, _+ℤ_};
+ghost use lib.Signed.{_≤ℤ_};
 ghost use mathlib.Core.Path.{_≡_};
 use crate::expression::Expression;
 use crate::limits::COLUMNS;
@@ -45,6 +48,15 @@ impl Expression {
     pub fn value_at(&self, point: &Point) -> i64
         ensures { λ r. ⌜ r ≡ valueOf (now (self .entry) .coefficients) (now (self .entry) .constant) (now (point .entry) .values) ⌝ }
     {
-        point.dot(&self.coefficients) + self.constant
+        raised_by(point.dot(&self.coefficients), self.constant)
     }
+}
+
+// A sum of products and a constant.
+fn raised_by(sum: i64, constant: i64) -> i64
+    requires sum { ⌜ (negℤ (pos dotLimit) ≤ℤ sum) × (sum ≤ℤ pos dotLimit) ⌝ }
+    requires constant { ⌜ (negℤ (pos dotLimit) ≤ℤ constant) × (constant ≤ℤ pos dotLimit) ⌝ }
+    ensures { λ r. ⌜ r ≡ sum +ℤ constant ⌝ }
+{
+    sum + constant
 }

@@ -15,8 +15,8 @@ impl Point {
     pub fn new(values: [i64; COLUMNS]) -> Option<Point>
         ensures { λ r. ⌜ PointFrom values r ⌝ }
     {
-        for column in 0..COLUMNS {
-            if !Limit::StateValue.admits(values[column]) {
+        for index in 0..COLUMNS {
+            if !Limit::StateValue.admits(values[index]) {
                 return None;
             }
         }

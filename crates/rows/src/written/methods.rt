@@ -5,7 +5,8 @@ ghost use Rattle.rows.specs.Shapes.{Meets, oppositeOf};
 ghost use Rattle.rows.specs.WrittenMade.{WrittenFrom, TurnsRound};
 ghost use Rattle.rows.specs.declared.limits.Limit.the-variants.{WrittenNumber};
 ghost use Rattle.std.specs.Orderings.{Decides};
-ghost use lib.IntN.{negℤ};
+ghost use lib.IntN.{pos, negℤ, _-ℤ_};
+ghost use lib.Signed.{_≤ℤ_};
 ghost use mathlib.Core.List.{map};
 ghost use mathlib.Core.Path.{_≡_};
 use crate::limits::COLUMNS;
@@ -48,10 +49,18 @@ impl WrittenRow {
     {
         let numbers = Numbers {
             coefficients: negated(self.numbers.coefficients),
-            bound: -self.numbers.bound - 1,
+            bound: turned_bound(self.numbers.bound),
         };
         Row::within_limit(numbers)
     }
+}
+
+// The opposite's bound.
+fn turned_bound(bound: i64) -> i64
+    requires { ⌜ (negℤ (pos (magnitudeOf WrittenNumber)) ≤ℤ bound) × (bound ≤ℤ pos (magnitudeOf WrittenNumber)) ⌝ }
+    ensures { λ r. ⌜ r ≡ negℤ bound -ℤ pos 1 ⌝ }
+{
+    -bound - 1
 }
 
 // Every number with its sign turned.

@@ -5,24 +5,15 @@ use lib.ListN.{length}
 use mir.Val.{SFits}
 use mir.Syntax.{w64}
 use Rattle.std.proofs.shelf.Signed.{toZ-ofZ}
-use Rattle.rows.specs.Bytes.{wordAt, longAt}
-use Rattle.rows.proofs.Offsets.{word-capped, read-small, read-large}
+use Rattle.rows.specs.Bytes.{wordAt, longAt, signed}
+use Rattle.rows.proofs.Offsets.{word-capped}
 use Rattle.rows.proofs.bytes.number_at.Needs as need
 
-pub returns-then-number-lt2147483648 : need.returns-then-number-lt2147483648
-returns-then-number-lt2147483648 c =
+pub returns : need.returns
+returns c =
     let s : length (c .args .bytes .now) < 2 ^ 64 = search needs in
     let h = c .from-high .ensures ∙ c .word-at .ensures in
     let l = c .from-low .ensures ∙ c .word-at-2 .ensures ∙ ap (wordAt (c .args .bytes .now)) (c .saturating-add .ensures) ∙ word-capped (c .args .bytes .now) (c .args .at) 2 s in
     let n : 65536 * c .from-high .result + c .from-low .result ≡ longAt (c .args .bytes .now) (c .args .at) = rw (h, l) in
-    let f : SFits w64 (c .from .result) = search needs in
-    toZ-ofZ w64 _ f ∙ c .from .ensures ∙ read-small _ _ n (c .if-number-lt2147483648 .taken)
-
-pub returns-else-number-lt2147483648 : need.returns-else-number-lt2147483648
-returns-else-number-lt2147483648 c =
-    let s : length (c .args .bytes .now) < 2 ^ 64 = search needs in
-    let h = c .from-high .ensures ∙ c .word-at .ensures in
-    let l = c .from-low .ensures ∙ c .word-at-2 .ensures ∙ ap (wordAt (c .args .bytes .now)) (c .saturating-add .ensures) ∙ word-capped (c .args .bytes .now) (c .args .at) 2 s in
-    let n : 65536 * c .from-high .result + c .from-low .result ≡ longAt (c .args .bytes .now) (c .args .at) = rw (h, l) in
-    let b : 65536 * c .from-high .result + c .from-low .result < 2 ^ 32 = search needs in
-    read-large _ _ _ (c .from-else-number-lt2147483648 .ensures) n b (c .if-number-lt2147483648 .left)
+    let f : SFits w64 (c .in-two-complement .result) = search needs in
+    toZ-ofZ w64 _ f ∙ c .in-two-complement .ensures ∙ ap signed n

@@ -8,6 +8,6 @@ use Rattle.rows.proofs.bytes.word_at.Needs as need
 pub returns : need.returns
 returns c =
     let s : length (c .args .bytes .now) < 2 ^ 64 = search needs in
-    let h = c .from .ensures ∙ c .byte-at .ensures in
-    let l = c .from-2 .ensures ∙ c .byte-at-2 .ensures ∙ ap (λ (k : ℕ). getD (c .args .bytes .now) k 0) (c .saturating-add .ensures) ∙ byte-capped (c .args .bytes .now) (c .args .at) 1 s in
-    rw (h, l)
+    let h = c .byte-at .ensures in
+    let l = c .byte-at-2 .ensures ∙ ap (λ (k : ℕ). getD (c .args .bytes .now) k 0) (c .saturating-add .ensures) ∙ byte-capped (c .args .bytes .now) (c .args .at) 1 s in
+    c .joined .ensures ∙ rw (h, l)

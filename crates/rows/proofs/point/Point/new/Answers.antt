@@ -13,9 +13,9 @@ use Rattle.rows.specs.Limits.{magnitudeOf, within}
 use Rattle.rows.proofs.point.Point.new.Needs as need
 
 pub ghost-result : need.ghost-result
-ghost-result c = (λ k l. c .loop-column .inv k (omega arith), tt)
+ghost-result c = (λ k l. c .loop-index .inv k (omega arith), tt)
 
-pub loop-column-again : need.loop-column-again
-loop-column-again c =
-    let f : SFits w64 (getD (c .args .values) (c .loop-column .column) (pos 0)) = search needs in
-    below-more _ _ (c .loop-column .inv) (sym (ap (within (magnitudeOf StateValue)) (toZ-ofZ w64 _ f)) ∙ sym (c .if-not-admits .ensures tt))
+pub loop-index-again : need.loop-index-again
+loop-index-again c =
+    let f : SFits w64 (getD (c .args .values) (c .loop-index .index) (pos 0)) = search needs in
+    below-more _ _ (c .loop-index .inv) (sym (ap (within (magnitudeOf StateValue)) (toZ-ofZ w64 _ f)) ∙ sym (c .if-not-admits .ensures tt))

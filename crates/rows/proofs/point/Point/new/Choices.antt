@@ -7,5 +7,5 @@ use Rattle.rows.specs.declared.limits.Limit.the-variants.{StateValue}
 use Rattle.rows.specs.Limits.{magnitudeOf, within}
 use Rattle.rows.proofs.point.Point.new.Given as given
 
-abbrev pub Inv-loop-column : given.InvT-loop-column
-Inv-loop-column l = (k : ℕ) → k < l .column → within (magnitudeOf StateValue) (getD (l .values) k (pos 0)) ≡ true
+abbrev pub Inv-loop-index : given.InvT-loop-index
+Inv-loop-index l = (k : ℕ) → k < l .index → within (magnitudeOf StateValue) (getD (l .values) k (pos 0)) ≡ true
