@@ -2,6 +2,7 @@ pub mod RowTests
 pub mod WeightTests
 pub mod WeightedSums
 pub mod Asked
+pub mod AskAnswers
 pub mod SumsExactly
 pub mod Listed
 pub mod Handing

@@ -1,4 +1,5 @@
 pub mod Questions
+pub mod Asks
 pub mod Openings
 pub mod Zero
 pub mod Weights

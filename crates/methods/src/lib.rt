@@ -1,5 +1,6 @@
 // Proof methods: what one is, the multiplier method and the look-up.
 
+mod asking;
 pub mod cut;
 pub mod layer;
 pub mod limits;
@@ -10,6 +11,7 @@ mod opening;
 pub mod split;
 mod weights;
 
+pub use asking::ask;
 pub use cut::Cut;
 pub use look_up::LookUp;
 pub use method::ProofMethod;

@@ -1,0 +1,2 @@
+pub mod MethodExamples
+pub mod WorkedExamples

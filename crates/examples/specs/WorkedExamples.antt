@@ -1,0 +1,6 @@
+-- All worked examples in one statement, a field for each part of the product.
+use Rattle.examples.specs.MethodExamples.{MethodExamples}
+
+pub record WorkedExamples : Type 0 where
+  -- questions to proof methods
+  pub methods : MethodExamples

@@ -1,0 +1,4 @@
+pub mod ZeroGoalExactly
+pub mod WeakenAnswers
+pub mod Slacks
+pub mod Refusals

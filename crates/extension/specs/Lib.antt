@@ -1,0 +1,5 @@
+pub mod ZeroGoals
+pub mod ZeroGoalLaws
+pub mod Nevers
+pub mod Weakens
+pub mod WeakenLaws
