@@ -12,3 +12,4 @@ pub mod CutsExactly
 pub mod CutAnswers
 pub mod SplitsExactly
 pub mod SplitAnswers
+pub mod StatedFaults

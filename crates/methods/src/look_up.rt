@@ -3,6 +3,9 @@ ghost use Prim.Native.Nat.{ℕ};
 ghost use Rattle.methods.specs.LooksUp.{covers as coversRow, listed as isListed, searchSays, lookUpSays, LookUpYes};
 ghost use Rattle.methods.specs.LooksUpLaws.{lookUpLawful};
 ghost use Rattle.methods.specs.Questions.{asked, YesExactly};
+ghost use Rattle.rows.specs.Faults.{Stated};
+ghost use Rattle.rows.specs.declared.fault.Fault.{Fault};
+ghost use Rattle.std.specs.declared.result.Result.the-variants.{Err};
 ghost use lib.ListN.{length, take};
 ghost use mathlib.Core.Path.{_≡_};
 use crate::method::ProofMethod;
@@ -65,6 +68,7 @@ pub impl ProofMethod for LookUp as LookUpProofMethod {
         ensures answer { λ r. ⌜ r ≡ asked lookUpSays count (now (sheet .entry)) (now (goal .entry)) (now (certificate .entry)) ⌝ }
         ensures kept { λ _. ⌜ take count (now (sheet .exit)) ≡ take count (now (sheet .entry)) ⌝ }
         ensures same { λ _. ⌜ now (sheet .exit) ≡ now (sheet .entry) ⌝ }
+        ensures stated { λ r. ⌜ ((f : Fault) → r ≡ Err f → Stated f) ⌝ }
         ensures exactly { λ r. ⌜ YesExactly r LookUpYes count (now (sheet .entry)) (now (goal .entry)) (now (certificate .entry)) ⌝ }
     {
         if count > sheet.len() {

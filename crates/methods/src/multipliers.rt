@@ -7,6 +7,9 @@ ghost use Rattle.methods.specs.SumsAsk.{Comparable};
 ghost use Rattle.methods.specs.Weighing.{Weighable};
 ghost use Rattle.rows.specs.Limits.{columns, items};
 ghost use Rattle.methods.specs.SumsLaws.{multipliersLawful};
+ghost use Rattle.rows.specs.Faults.{Stated};
+ghost use Rattle.rows.specs.declared.fault.Fault.{Fault};
+ghost use Rattle.std.specs.declared.result.Result.the-variants.{Err};
 ghost use lib.ListN.{length, take};
 ghost use mathlib.Core.Path.{_≡_};
 ghost use mathlib.Core.List.{List};
@@ -102,6 +105,7 @@ pub impl ProofMethod for Multipliers as MultipliersProofMethod {
         ensures answer { λ r. ⌜ r ≡ asked multipliersSay count (now (sheet .entry)) (now (goal .entry)) (now (certificate .entry)) ⌝ }
         ensures kept { λ _. ⌜ take count (now (sheet .exit)) ≡ take count (now (sheet .entry)) ⌝ }
         ensures same { λ _. ⌜ now (sheet .exit) ≡ now (sheet .entry) ⌝ }
+        ensures stated { λ r. ⌜ ((f : Fault) → r ≡ Err f → Stated f) ⌝ }
         ensures exactly { λ r. ⌜ YesExactly r MultipliersYes count (now (sheet .entry)) (now (goal .entry)) (now (certificate .entry)) ⌝ }
     {
         if count > sheet.len() {
