@@ -1,3 +1,4 @@
+pub mod OrderTests
 pub mod ZeroGoalExactly
 pub mod WeakenAnswers
 pub mod Slacks

@@ -13,27 +13,16 @@ use Rattle.rows.specs.declared.limits.Limit.the-variants.{RowNumber}
 use Rattle.rows.specs.declared.numbers.Numbers.{Numbers}
 use Rattle.rows.specs.Limits.{columns, magnitudeOf}
 use Rattle.rows.specs.Shapes.{Within}
-
-not-least : (z : ℤ) → ltZ z (pos 0) ≡ true → leZ (pos 0) z ≡ false
-not-least z e = grind (arith, ints)
-
-least : (z : ℤ) → ltZ z (pos 0) ≡ false → leZ (pos 0) z ≡ true
-least z e = grind (arith, ints)
-
-not-most : (z : ℤ) → ltZ (pos 1000000) z ≡ true → leZ z (pos 1000000) ≡ false
-not-most z e = grind (arith, ints)
-
-most : (z : ℤ) → ltZ (pos 1000000) z ≡ false → leZ z (pos 1000000) ≡ true
-most z e = grind (arith, ints)
+use Rattle.extension.proofs.OrderTests.{less, not-less}
 
 pub too-low : (z : ℤ) → ltZ z (pos 0) ≡ true → (leZ (pos 0) z && leZ z (pos 1000000)) ≡ false
-too-low z e = rw (not-least z e)
+too-low z e = rw (less (pos 0) z e)
 
 pub too-high : (z : ℤ) → ltZ z (pos 0) ≡ false → ltZ (pos 1000000) z ≡ true → (leZ (pos 0) z && leZ z (pos 1000000)) ≡ false
-too-high z e h = rw (least z e, not-most z h)
+too-high z e h = rw (not-less (pos 0) z e, less z (pos 1000000) h)
 
 pub in-range : (z : ℤ) → ltZ z (pos 0) ≡ false → ltZ (pos 1000000) z ≡ false → (leZ (pos 0) z && leZ z (pos 1000000)) ≡ true
-in-range z e h = and-from _ _ (least z e) (most z h)
+in-range z e h = and-from _ _ (not-less (pos 0) z e) (not-less z (pos 1000000) h)
 
 bound-within : (b : ℤ) → (leZ (negℤ (pos 20000000000000)) b && leZ b (pos 20000000000000)) ≡ true → (negℤ (pos 20000000000000) ≤ℤ b) × (b ≤ℤ pos 20000000000000)
 bound-within b e =
@@ -44,4 +33,4 @@ fits-of : (b z : ℤ) → (negℤ (pos 20000000000000) ≤ℤ b) × (b ≤ℤ po
 fits-of b z h l m = omega (arith, ints, h .0, h .1)
 
 pub lowered-fits : (row : Numbers) (z : ℤ) → Within (magnitudeOf RowNumber) row → ltZ z (pos 0) ≡ false → ltZ (pos 1000000) z ≡ false → SFits w64 (row .bound -ℤ z)
-lowered-fits row z w e h = fits-of (row .bound) z (bound-within (row .bound) (w columns (lit< tt))) (least z e) (most z h)
+lowered-fits row z w e h = fits-of (row .bound) z (bound-within (row .bound) (w columns (lit< tt))) (not-less (pos 0) z e) (not-less z (pos 1000000) h)

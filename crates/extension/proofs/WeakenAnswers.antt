@@ -27,6 +27,7 @@ use Rattle.methods.specs.Openings.{rowSays}
 use Rattle.methods.specs.Questions.{Question, question, Meaning, asked}
 use Rattle.methods.proofs.Asked.{asked-within}
 use Rattle.extension.specs.Weakens.{lowerFrom, lowered, slackTests, stronger, weakenOwn, weakenSays, WeakenYes}
+use Rattle.extension.proofs.OrderTests.{le-test}
 
 module _ (below : Meaning) (count : ℕ) (sheet : List Numbers) (goal : Numbers) (certificate : List ℕ) (l : count ≤ length sheet) where
   ask : Question
@@ -67,9 +68,6 @@ module _ (below : Meaning) (count : ℕ) (sheet : List Numbers) (goal : Numbers)
       then r e (Ok Own) b (goes _ _ _ s
       (h ∙ ap (λ (part : List ℕ). moved lowerFrom (below (question (take count sheet) goal′ part (length sheet)))) (take-rest certificate lowerFrom)
       ∙ ap (λ (n : Numbers). moved lowerFrom (below (question (take count sheet) n (drop lowerFrom certificate) (length sheet)))) d))
-
-le-test : (a b : ℤ) → a ≤ℤ b → leZ a b ≡ true
-le-test a b h = grind (arith, ints)
 
 first-is : (certificate : List ℕ) (b : ℕ) → 0 < length certificate → getD certificate 0 0 ≡ b →
     firstByte certificate ≡ cond (eqb b 0) (Ok HandDown) (cond (eqb b 1) (Ok Own) (Err (faultOf LayerByte 0 0 0)))

@@ -15,9 +15,7 @@ use Rattle.rows.proofs.Equalities.{eqZ-decides}
 use Rattle.rows.proofs.First.{none-first}
 use Rattle.methods.specs.Questions.{Question}
 use Rattle.extension.specs.ZeroGoals.{uses, zeroGoalTests, zeroGoalSays, ZeroGoalYes}
-
-le-test : (a b : ℤ) → a ≤ℤ b → leZ a b ≡ true
-le-test a b h = grind (arith, ints)
+use Rattle.extension.proofs.OrderTests.{le-test}
 
 pub zero-goal-if : (q : Question) → ZeroGoalYes q → zeroGoalSays q ≡ Ok tt
 unfolding zeroGoalTests

@@ -1,3 +1,4 @@
+pub mod Orders
 pub mod ZeroGoals
 pub mod ZeroGoalLaws
 pub mod Nevers

@@ -29,10 +29,8 @@ use Rattle.methods.specs.Layers.{firstByte, byFirst, from}
 use Rattle.methods.specs.OpeningLaws.{row-yes}
 use Rattle.methods.specs.Openings.{rowSays}
 use Rattle.methods.specs.Questions.{Question, Meaning, Lawful}
+use Rattle.extension.specs.Orders.{le-from}
 use Rattle.extension.specs.Weakens.{slackFrom, lowerFrom, slack, lowered, slackTests, stronger, weakenOwn, weakenSays, WeakenOwnYes, WeakenYes}
-
-le-from : (a b : ℤ) → leZ a b ≡ true → a ≤ℤ b
-le-from a b e = omega (arith, ints)
 
 -- what a yes of the tests says
 pub slack-yes : (certificate : List ℕ) → slackTests certificate ≡ Ok tt →

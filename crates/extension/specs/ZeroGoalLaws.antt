@@ -23,10 +23,8 @@ use Rattle.rows.proofs.Chains.{both, check-true, found-none, either, check-firs
 use Rattle.rows.proofs.Equalities.{eqZ-decides}
 use Rattle.rows.proofs.First.{first-none}
 use Rattle.methods.specs.Questions.{Question, Lawful}
+use Rattle.extension.specs.Orders.{le-from}
 use Rattle.extension.specs.ZeroGoals.{uses, zeroGoalTests, zeroGoalSays, ZeroGoalYes}
-
-le-from : (a b : ℤ) → leZ a b ≡ true → a ≤ℤ b
-le-from a b e = omega (arith, ints)
 
 -- what a yes of the tests says
 pub zero-goal-only : (q : Question) → zeroGoalSays q ≡ Ok tt → ZeroGoalYes q

@@ -1,4 +1,4 @@
-// Proof methods: what one is, the multiplier method and the look-up.
+// Proof methods: what one is, multipliers and look-up, the layers cut and split, and asking any of them.
 
 mod asking;
 pub mod cut;

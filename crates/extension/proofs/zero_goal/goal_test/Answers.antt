@@ -12,13 +12,8 @@ use Rattle.rows.specs.Faults.{faultOf, unlessFound}
 use Rattle.rows.specs.Limits.{columns}
 use Rattle.rows.proofs.Chains.{stops, goes, checked, failed}
 use Rattle.extension.specs.ZeroGoals.{zeroGoalTests}
+use Rattle.extension.proofs.OrderTests.{less, not-less}
 use Rattle.extension.proofs.zero_goal.goal_test.Needs as need
-
-below-zero : (z : ℤ) → ltZ z (pos 0) ≡ true → leZ (pos 0) z ≡ false
-below-zero z e = grind (arith, ints)
-
-not-below-zero : (z : ℤ) → ltZ z (pos 0) ≡ false → leZ (pos 0) z ≡ true
-not-below-zero z e = grind (arith, ints)
 
 pub returns-then-not-is-empty : need.returns-then-not-is-empty
 unfolding zeroGoalTests
@@ -36,7 +31,7 @@ returns-then-goal-lt0 c =
     let f : SFits w64 (c .args .goal .now .bound) = search needs in
     let l = simp toZ-ofZ at (c .if-goal-lt0 .taken) in
     rw (c .with-item-then-goal-lt0 .ensures) (goes _ _ _ (checked _ _ (sym (c .if-not-is-empty .ensures tt)))
-    (goes _ _ _ (ap (unlessFound ColumnDiffers) (c .in-rest .ensures tt)) (failed _ _ (below-zero (c .args .goal .now .bound) l))))
+    (goes _ _ _ (ap (unlessFound ColumnDiffers) (c .in-rest .ensures tt)) (failed _ _ (less (pos 0) (c .args .goal .now .bound) l))))
 
 pub returns : need.returns
 unfolding zeroGoalTests
@@ -44,4 +39,4 @@ returns c =
     let f : SFits w64 (c .args .goal .now .bound) = search needs in
     let l = simp toZ-ofZ at (c .if-goal-lt0 .left) in
     goes _ _ _ (checked _ _ (sym (c .if-not-is-empty .ensures tt)))
-    (goes _ _ _ (ap (unlessFound ColumnDiffers) (c .in-rest .ensures tt)) (checked _ (faultOf BoundNotShown 0 0 columns) (not-below-zero (c .args .goal .now .bound) l)))
+    (goes _ _ _ (ap (unlessFound ColumnDiffers) (c .in-rest .ensures tt)) (checked _ (faultOf BoundNotShown 0 0 columns) (not-less (pos 0) (c .args .goal .now .bound) l)))
