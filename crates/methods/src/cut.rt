@@ -6,7 +6,7 @@ ghost use Rattle.methods.specs.CutsAsk.{Rows, Divisible, CutMade};
 ghost use Rattle.methods.specs.Openings.{mostFacts, Opened};
 ghost use Rattle.methods.specs.Questions.{asked, question as asking, YesExactly};
 ghost use Rattle.methods.specs.Weighing.{Weighable};
-ghost use Rattle.rows.specs.Limits.{items};
+ghost use Rattle.rows.specs.Limits.{columns, items};
 ghost use lib.ListN.{length, take};
 ghost use mathlib.Core.Path.{_≡_};
 use crate::layer::FirstByte;
@@ -64,6 +64,14 @@ fn columns_test(facts: &[Numbers], certificate: &[u8]) -> Answer
     Ok(())
 }
 
+// The facts' sum of bounds, divided and rounded down.
+fn divided_bound(facts: &[Numbers], certificate: &[u8]) -> i64
+    requires { ⌜ Divisible (now certificate) (now facts) ⌝ }
+    ensures { λ r. ⌜ r ≡ divided (now (facts .entry)) (now (certificate .entry)) columns ⌝ }
+{
+    divided_item(facts, certificate, COLUMNS)
+}
+
 // The divided row.
 fn divided_row(facts: &[Numbers], certificate: &[u8]) -> Numbers
     requires { ⌜ Divisible (now certificate) (now facts) ⌝ }
@@ -73,7 +81,7 @@ fn divided_row(facts: &[Numbers], certificate: &[u8]) -> Numbers
     for column in 0..COLUMNS {
         coefficients[column] = divided_item(facts, certificate, column);
     }
-    let bound = divided_item(facts, certificate, COLUMNS);
+    let bound = divided_bound(facts, certificate);
     Numbers {
         coefficients,
         bound,

@@ -6,7 +6,7 @@ ghost use Rattle.methods.specs.Questions.{question as asking};
 ghost use Rattle.rows.specs.Faults.{faultOf, check, moved as movedBy};
 ghost use Rattle.rows.specs.declared.fault.FaultKind.the-variants.{NoRoomForFact};
 ghost use lib.Dec.{ltb};
-ghost use lib.ListN.{length, take};
+ghost use lib.ListN.{length, take, set};
 ghost use mathlib.Core.Bool.{_&&_};
 ghost use mathlib.Core.List.{List, [], _∷_, _++_};
 ghost use mathlib.Core.Path.{_≡_};
@@ -72,6 +72,14 @@ pub(crate) fn handed<M: ProofMethod>(
     moved(answer, offset)
 }
 
+// One more fact, behind the others.
+fn put_behind(sheet: &mut [Numbers], count: usize, fact: Numbers)
+    requires { ⌜ count < length (now sheet) ⌝ }
+    ensures { λ _. ⌜ now (sheet .exit) ≡ set (now (sheet .entry)) count fact ⌝ }
+{
+    sheet[count] = fact;
+}
+
 // The same with one more fact, which is put behind the others.
 pub(crate) fn with_fact<M: ProofMethod>(
     below: &M,
@@ -87,6 +95,6 @@ pub(crate) fn with_fact<M: ProofMethod>(
     ensures answer { λ r. ⌜ r ≡ movedBy offset (M·ProofMethod .meaning (now (below .entry)) (asking (take count (now (sheet .entry)) ++ fact ∷ []) (now (goal .entry)) (now (part .entry)) (length (now (sheet .entry))))) ⌝ }
     ensures kept { λ _. ⌜ take count (now (sheet .exit)) ≡ take count (now (sheet .entry)) ⌝ }
 {
-    sheet[count] = fact;
+    put_behind(sheet, count, fact);
     handed(below, sheet, count + 1, goal, part, offset)
 }

@@ -23,7 +23,7 @@ loop-column-again c =
 
 pub returns : need.returns
 returns c =
-    let f : SFits w64 (c .divided-item-bound .result) = search needs in
+    let f : SFits w64 (c .divided-bound-bound .result) = search needs in
     same-numbers _ _ _ _
     (filled-all (divided (c .args .facts .now) (c .args .certificate .now)) (c .loop-column .coefficients) columns (c .loop-column .column) (c .loop-column .inv .0) (c .loop-column-test .left) (c .loop-column .kept .column-end) (c .loop-column .inv .1))
-    (toZ-ofZ w64 _ f ∙ c .divided-item-bound .ensures)
+    (toZ-ofZ w64 _ f ∙ c .divided-bound-bound .ensures)
