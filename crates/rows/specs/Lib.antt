@@ -9,3 +9,4 @@ pub mod WrittenMade
 pub mod ExpressionsMade
 pub mod Wholes
 pub mod Bytes
+pub mod Zeros

@@ -15,3 +15,4 @@ pub struct Expression {
 }
 
 pub mod methods;
+pub mod zero;

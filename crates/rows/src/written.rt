@@ -14,3 +14,4 @@ pub struct WrittenRow {
 }
 
 pub mod methods;
+pub mod zero;

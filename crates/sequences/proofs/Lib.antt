@@ -1,0 +1,14 @@
+pub mod Fronts
+pub mod PieceTests
+pub mod RowItems
+pub mod RecordsSame
+pub mod HeadingLimits
+pub mod TableParts
+pub mod TransitionSteps
+pub mod HandedSteps
+pub mod WalkSteps
+pub mod WitnessParts
+pub mod WitnessWalks
+pub mod Filling
+pub mod SamplesRead
+pub mod FaultPlaces
