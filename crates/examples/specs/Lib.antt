@@ -1,2 +1,3 @@
 pub mod MethodExamples
+pub mod ReaderExamples
 pub mod WorkedExamples
