@@ -3,6 +3,7 @@ use crate::building::*;
 use crate::reading::*;
 use rows::FaultKind;
 use std::process::Abort;
+use std::test::Fail;
 
 // The sample table and its witness, byte by byte.
 static SAMPLE_TABLE: [u8; 98] = [
@@ -38,9 +39,7 @@ fn cut_table(rt: &impl Abort, bytes: &[u8], from: usize, size: usize) -> Result<
         } else {
             Ok(whole)
         };
-        expect_table(rt, &bytes[0..length], TABLE_MEMORY, expected).note(format_args!(
-            "{length} bytes"
-        ))?;
+        expect_table(rt, &length, &bytes[0..length], TABLE_MEMORY, expected)?;
     }
     Ok(())
 }
@@ -94,9 +93,14 @@ fn cut_witness(
 ) -> Result<(), Fail> {
     for length in 0..=bytes.len() {
         let expected = cut_to(length, places, from, inner, entry);
-        expect_witness(rt, against, &bytes[0..length], WITNESS_MEMORY, expected).note(format_args!(
-            "{length} bytes"
-        ))?;
+        expect_witness(
+            rt,
+            &length,
+            against,
+            &bytes[0..length],
+            WITNESS_MEMORY,
+            expected,
+        )?;
     }
     Ok(())
 }

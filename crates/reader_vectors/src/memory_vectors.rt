@@ -3,6 +3,7 @@ use crate::building::*;
 use crate::reading::*;
 use rows::FaultKind;
 use rows::FaultKind::*;
+use std::test::Fail;
 
 // Memory for so many transitions, places and inner transitions, a byte changed in the table, and what the reader tells.
 static TABLES: [((usize, usize, usize), Change, Expected<usize>); 13] = [
@@ -26,8 +27,14 @@ fn memory_of_tables(rt: HostRuntime) -> Result<(), Fail> {
     for i in 0..TABLES.len() {
         let (memory, one, expected) = TABLES[i];
         let built = (SMALL, 2, (1, 1));
-        expect_built_table(&rt, rt.alloc(), built, (one, NONE, WHOLE), memory, expected).note(
-            format_args!("vector {i}"),
+        expect_built_table(
+            &rt,
+            &i,
+            rt.alloc(),
+            built,
+            (one, NONE, WHOLE),
+            memory,
+            expected,
         )?;
     }
     Ok(())
@@ -52,8 +59,14 @@ fn memory_of_witnesses(rt: HostRuntime) -> Result<(), Fail> {
     for i in 0..WITNESSES.len() {
         let (memory, one, expected) = WITNESSES[i];
         let built = (SMALL, (2, 11, 13, 0), (1, 2, 1));
-        expect_built_witness(&rt, rt.alloc(), built, (one, NONE, WHOLE), memory, expected).note(
-            format_args!("vector {i}"),
+        expect_built_witness(
+            &rt,
+            &i,
+            rt.alloc(),
+            built,
+            (one, NONE, WHOLE),
+            memory,
+            expected,
         )?;
     }
     Ok(())

@@ -4,6 +4,7 @@ use crate::reading::*;
 use rows::FaultKind;
 use std::alloc::Global;
 use std::process::Abort;
+use std::test::Fail;
 
 // A number, and whether it is a written number.
 const NUMBERS: [(i32, bool); 6] = [
@@ -29,7 +30,7 @@ fn numbers_in_table(rt: &impl Abort, bytes: &mut Vec<u8>, at: usize) -> Result<(
         put_at(bytes, at, number)?;
         let refused = (FaultKind::TableWritten, at);
         let expected = if taken { Ok(1) } else { Err(refused) };
-        expect_table(rt, bytes, TABLE_MEMORY, expected).note(format_args!("{number} at {at}"))?;
+        expect_table(rt, &(number, at), bytes, TABLE_MEMORY, expected)?;
     }
     put_at(bytes, at, 0)
 }
@@ -66,9 +67,7 @@ fn numbers_in_witness(
         put_at(bytes, at, number)?;
         let refused = (FaultKind::WitnessWritten, at);
         let expected = if taken { Ok((2, 2)) } else { Err(refused) };
-        expect_witness(rt, against, bytes, WITNESS_MEMORY, expected).note(format_args!(
-            "{number} at {at}"
-        ))?;
+        expect_witness(rt, &(number, at), against, bytes, WITNESS_MEMORY, expected)?;
     }
     put_at(bytes, at, 0)
 }

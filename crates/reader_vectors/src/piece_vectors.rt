@@ -5,6 +5,7 @@ use rows::FaultKind::*;
 use rows::{Fault, FaultKind};
 use sequences::{WitnessPiece, WitnessReader};
 use std::process::Abort;
+use std::test::Fail;
 
 // The offsets, lengths and kinds of the pieces of a witness with two places and two inner transitions.
 const PIECES: [(usize, usize, u8); 4] = [(1, 33, 1), (36, 33, 1), (71, 32, 2), (105, 32, 2)];
@@ -41,6 +42,7 @@ static VECTORS: [(Change, usize, usize, Expected<()>); 15] = [
 // The reader hands out so many pieces, and then it tells the same twice.
 fn expect_pieces(
     rt: &impl Abort,
+    vector: usize,
     bytes: &[u8],
     count: usize,
     end: Option<Fault>,
@@ -48,18 +50,22 @@ fn expect_pieces(
     let mut reader = match WitnessReader::new(bytes) {
         Ok(reader) => reader,
         Err(fault) => {
-            assert_eq!(rt; Some(fault), end);
-            return Ok(())
-        },
+            assert_eq!(rt; Some(fault), end, "vector {vector}");
+            return Ok(());
+        }
     };
     for i in 0..count.min(4) {
-        assert_eq!(rt; handed(&mut reader), Ok(Some(PIECES[i])));
+        assert_eq!(rt; handed(&mut reader), Ok(Some(PIECES[i])), "vector {vector}");
     }
     let told = match end {
         Some(fault) => Err(fault),
         None => Ok(None),
     };
-    assert_eq!(rt; (handed(&mut reader), handed(&mut reader)), (told, told));
+    assert_eq!(rt;
+        (handed(&mut reader), handed(&mut reader)),
+        (told, told),
+        "vector {vector}"
+    );
     Ok(())
 }
 
@@ -69,7 +75,7 @@ fn pieces_handed_out(rt: HostRuntime) -> Result<(), Fail> {
         let (one, length, count, expected) = VECTORS[i];
         let mut bytes = witness(rt.alloc(), (SMALL, (2, 11, 13, 0), (1, 2, 1)))?;
         change(&mut bytes, (one, NONE, length))?;
-        expect_pieces(&rt, &bytes, count, fault_of(expected)).note(format_args!("vector {i}"))?;
+        expect_pieces(&rt, i, &bytes, count, fault_of(expected))?;
     }
     Ok(())
 }

@@ -4,7 +4,9 @@ use records::{BoundedList, Inner, Place, PlanEntry, Register, Transition};
 use rows::{Expression, Fault, FaultKind, WrittenRow};
 use sequences::{read_table, read_witness, test_table, test_witness};
 use std::alloc::Global;
+use std::fmt::Debug;
 use std::process::Abort;
+use std::test::Fail;
 
 // How many records are read, or a fault's kind and place; its depth and item are 0.
 pub type Expected<T> = Result<T, (FaultKind, usize)>;
@@ -74,27 +76,29 @@ fn left_by_table(bytes: &[u8], memory: (usize, usize, usize)) -> Left<usize, boo
 }
 
 // Reading a table tells this, and so does testing it, where the memory is enough. After a refusal the register holds
-// what it held.
+// what it held. The vector says in a failure which one it was.
 pub fn expect_table(
     rt: &impl Abort,
+    vector: &impl Debug,
     bytes: &[u8],
     memory: (usize, usize, usize),
     expected: Expected<usize>,
 ) -> Result<(), Fail> {
     let fault = fault_of(expected);
     if memory == TABLE_MEMORY {
-        assert_eq!(rt; test_table(bytes).err(), fault);
+        assert_eq!(rt; test_table(bytes).err(), fault, "vector {vector:?}");
     }
     let before = memory.0.min(1);
     let kept = expected.is_err() && before == 1;
     let left = (fault, expected.unwrap_or(before), kept);
-    assert_eq!(rt; left_by_table(bytes, memory), left);
+    assert_eq!(rt; left_by_table(bytes, memory), left, "vector {vector:?}");
     Ok(())
 }
 
 // The same of a table that is built and then changed.
 pub fn expect_built_table(
     rt: &impl Abort,
+    vector: &impl Debug,
     heap: Global,
     built: Table,
     changes: (Change, Change, usize),
@@ -103,7 +107,7 @@ pub fn expect_built_table(
 ) -> Result<(), Fail> {
     let mut bytes = table(heap, built)?;
     change(&mut bytes, changes)?;
-    expect_table(rt, &bytes, memory, expected)
+    expect_table(rt, vector, &bytes, memory, expected)
 }
 
 // Tests a witness against a table.
@@ -139,6 +143,7 @@ fn left_by_witness(
 // registers hold what they held.
 pub fn expect_witness(
     rt: &impl Abort,
+    vector: &impl Debug,
     table: &[u8],
     bytes: &[u8],
     memory: (usize, usize),
@@ -146,19 +151,24 @@ pub fn expect_witness(
 ) -> Result<(), Fail> {
     let fault = fault_of(expected);
     if memory == WITNESS_MEMORY {
-        assert_eq!(rt; told_by_test(table, bytes), Ok(fault));
+        assert_eq!(rt; told_by_test(table, bytes), Ok(fault), "vector {vector:?}");
     }
     let before = (memory.0.min(1), memory.1.min(1));
     let refused = expected.is_err();
     let kept = (refused && before.0 == 1, refused && before.1 == 1);
     let left = (fault, expected.unwrap_or(before), kept);
-    assert_eq!(rt; left_by_witness(table, bytes, memory), Ok(left));
+    assert_eq!(rt;
+        left_by_witness(table, bytes, memory),
+        Ok(left),
+        "vector {vector:?}"
+    );
     Ok(())
 }
 
 // The same of a witness that is built and then changed, against a table with 24 transitions.
 pub fn expect_built_witness(
     rt: &impl Abort,
+    vector: &impl Debug,
     heap: Global,
     built: Witness,
     changes: (Change, Change, usize),
@@ -168,5 +178,5 @@ pub fn expect_built_witness(
     let against = table(heap, (built.0, 24, (0, 0)))?;
     let mut bytes = witness(heap, built)?;
     change(&mut bytes, changes)?;
-    expect_witness(rt, &against, &bytes, memory, expected)
+    expect_witness(rt, vector, &against, &bytes, memory, expected)
 }

@@ -5,6 +5,7 @@ use records::{Heading, Inner, Place, Register, Transition};
 use rows::{Expression, Fault, Numbers, WrittenRow};
 use sequences::{read_table, read_witness};
 use std::process::Abort;
+use std::test::Fail;
 
 // A row or an expression holds the numbers that stand from an offset: those of the values, of the choices, the bound.
 fn expect_numbers(

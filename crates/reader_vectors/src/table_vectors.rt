@@ -3,6 +3,7 @@ use crate::building::*;
 use crate::reading::*;
 use rows::FaultKind;
 use rows::FaultKind::*;
+use std::test::Fail;
 
 // The number of transitions of a small table with one initial row and one guard row in each, up to two bytes changed in
 // it, the number of its bytes, and what the readers tell.
@@ -180,9 +181,7 @@ fn limits_of_tables(rt: HostRuntime) -> Result<(), Fail> {
     for i in 0..LIMITS.len() {
         let (built, expected) = LIMITS[i];
         let changes = (NONE, NONE, WHOLE);
-        expect_built_table(&rt, rt.alloc(), built, changes, TABLE_MEMORY, expected).note(
-            format_args!("vector {i}"),
-        )?;
+        expect_built_table(&rt, &i, rt.alloc(), built, changes, TABLE_MEMORY, expected)?;
     }
     Ok(())
 }
@@ -193,9 +192,7 @@ fn faults_of_tables(rt: HostRuntime) -> Result<(), Fail> {
         let (transitions, one, other, length, expected) = VECTORS[i];
         let built = (SMALL, transitions, (1, 1));
         let changes = (one, other, length);
-        expect_built_table(&rt, rt.alloc(), built, changes, TABLE_MEMORY, expected).note(
-            format_args!("vector {i}"),
-        )?;
+        expect_built_table(&rt, &i, rt.alloc(), built, changes, TABLE_MEMORY, expected)?;
     }
     Ok(())
 }

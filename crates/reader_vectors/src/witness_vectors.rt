@@ -3,6 +3,7 @@ use crate::building::*;
 use crate::reading::*;
 use rows::FaultKind;
 use rows::FaultKind::*;
+use std::test::Fail;
 
 // How a small witness is built: its pieces, and the entries of each plan; there is one condition row in each place and
 // one restriction row in each inner transition.
@@ -303,8 +304,14 @@ fn limits_of_witnesses(rt: HostRuntime) -> Result<(), Fail> {
     for i in 0..LIMITS.len() {
         let (built, expected) = LIMITS[i];
         let changes = (NONE, NONE, WHOLE);
-        expect_built_witness(&rt, rt.alloc(), built, changes, WITNESS_MEMORY, expected).note(
-            format_args!("vector {i}"),
+        expect_built_witness(
+            &rt,
+            &i,
+            rt.alloc(),
+            built,
+            changes,
+            WITNESS_MEMORY,
+            expected,
         )?;
     }
     Ok(())
@@ -316,8 +323,14 @@ fn faults_of_witnesses(rt: HostRuntime) -> Result<(), Fail> {
         let ((pieces, entries), one, other, length, expected) = VECTORS[i];
         let built = (SMALL, pieces, (1, entries, 1));
         let changes = (one, other, length);
-        expect_built_witness(&rt, rt.alloc(), built, changes, WITNESS_MEMORY, expected).note(
-            format_args!("vector {i}"),
+        expect_built_witness(
+            &rt,
+            &i,
+            rt.alloc(),
+            built,
+            changes,
+            WITNESS_MEMORY,
+            expected,
         )?;
     }
     Ok(())

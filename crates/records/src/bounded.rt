@@ -1,12 +1,25 @@
 // Lists of a few elements, held by value.
 ghost use Rattle.std.specs.Prelude.{◌≡◌, ℕ, length};
 
+use std::alloc::AllocError;
+
 // The first `count` of the items; those behind them are not part of the list.
-#[derive(Clone, Copy)]
 pub struct BoundedList<T, const N: usize> {
     items: [T; N],
     count: usize,
     ghost sized: { length items ≡ N },
 }
+
+impl<T: Copy, const N: usize> Clone for BoundedList<T, N> {
+    ghost is_clone = { λ x y. y ≡ x };
+
+    ghost is_infallible = { λ _. Unit {0} };
+
+    fn clone(&self) -> Result<Self, AllocError> {
+        Ok(*self)
+    }
+}
+
+impl<T: Copy, const N: usize> Copy for BoundedList<T, N> {}
 
 pub mod methods;

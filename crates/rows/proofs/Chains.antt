@@ -1,5 +1,5 @@
 -- Tests one after another: where a chain of them stops, where it goes on, and what a yes of the whole says of each.
-use Rattle.std.proofs.Common.{◌≡◌, ℕ, Bool, true, false, cond, Some, None, Ok, Err, Option, sym, refl, ap, ◌∙◌, arith}
+use Rattle.std.proofs.Common.{◌≡◌, ℕ, Bool, true, false, Some, None, Ok, Err, Option, sym, refl, ap, ◌∙◌, arith}
 use Rattle.rows.specs.declared.fault.Fault.{Fault}
 use Rattle.rows.specs.declared.fault.FaultKind.{FaultKind}
 use Rattle.rows.specs.Faults.{Said, fault_of, ◌and_then◌, check, unless_found}

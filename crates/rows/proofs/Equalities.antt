@@ -1,10 +1,11 @@
 -- Equality of whole numbers as a test, also of two numbers that the code compares by their bits.
-use Rattle.std.proofs.Common.{◌≡◌, ℕ, Bool, true, false, not, ◌&&◌, eqb, ◌⊎◌, List, [], ◌∷◌, ℤ, pos, negsuc, Decides, sym, refl, ap, ◌∙◌, inl, inr, w64, SFits, to_z, of_z}
+use Rattle.std.proofs.Common.{◌≡◌, Bool, true, false, not, List, [], ◌∷◌, ℤ, pos, negsuc, Decides, sym, refl, ap, ◌∙◌, inl, inr, w64, SFits, to_z, of_z}
 use Rattle.std.proofs.lemmas.Int.{to_z-of_z}
 use Rattle.std.proofs.lemmas.Bool.{cases_Bool, and_parts}
-use Rattle.std.proofs.lemmas.Bool.Decides.{Decides-eqb, same_from_decides}
+use Rattle.std.proofs.lemmas.Bool.Decides.{Decides-eqb, Decides-int_eq, same_from_decides}
 use Rattle.std.proofs.lemmas.Slice.Eq.{slice_eq-Decides}
-use Rattle.std.specs.Cmp.Lexicographic.{Matches}
+use Rattle.std.specs.Cmp.Lexicographic.{pointwise}
+use Rattle.std.specs.Ordering.{int_eq}
 use Rattle.rows.specs.Wholes.{int_eq_test, alike}
 
 pub int_eq_test-decides : (a b : ℤ) → Decides (int_eq_test a b) (a ≡ b)
@@ -28,8 +29,8 @@ alike-decides (x ∷ xs) (y ∷ ys) = (
 )
 
 -- what `==` on two arrays answers
-pub alike_is : (xs ys : List ℤ) (r : Bool) → Matches (λ (a b : ℤ) (t : Bool). Decides t (a ≡ b)) xs ys r → r ≡ alike xs ys
-alike_is xs ys r m = same_from_decides r (alike xs ys) (slice_eq-Decides Decides-eqb xs ys r m) (alike-decides xs ys)
+pub alike_is : (xs ys : List ℤ) (r : Bool) → r ≡ pointwise int_eq xs ys → r ≡ alike xs ys
+alike_is xs ys r m = same_from_decides r (alike xs ys) (slice_eq-Decides Decides-int_eq xs ys r m) (alike-decides xs ys)
 
 -- the code compares a and b, which are p and q, by their bits
 pub bits-same : (a b p q : ℤ) → SFits w64 a → SFits w64 b → of_z w64 a ≡ of_z w64 b → a ≡ p → b ≡ q → not (int_eq_test p q) ≡ false

@@ -1,8 +1,8 @@
 -- The items of a row: its columns, then its bound.
-use Rattle.std.proofs.Common.{◌≡◌, ℕ, ◌<◌, ◌≤◌, true, ltb, List, get_or, ℤ, pos, sym, ap, ◌∙◌, arith}
+use Rattle.std.proofs.Common.{◌≡◌, ℕ, ◌<◌, ◌≤◌, ltb, List, get_or, ℤ, pos, sym, ap, ◌∙◌, arith}
 use Rattle.std.proofs.lemmas.Bool.{lt-ltb, le-ltb, cond-true, cond-false}
 use Rattle.rows.specs.declared.numbers.Numbers.{Numbers}
-use Rattle.rows.specs.Limits.{columns, items, within}
+use Rattle.rows.specs.Limits.{columns, within}
 use Rattle.rows.specs.Points.{ValuesWithin}
 use Rattle.rows.specs.Shapes.{item_of, Within}
 

@@ -1,15 +1,15 @@
 -- The opposite of a row: exactly one of the two is met at any point, and that of a written row fits a row.
-use Rattle.std.proofs.Common.{◌≡◌, ℕ, zero, suc, ◌+◌, ◌*◌, ◌<◌, ◌≤◌, true, ◌⊎◌, List, [], ◌∷◌, map, get_or, ℤ, pos, negsuc, ◌+ℤ◌, ◌-ℤ◌, ◌*ℤ◌, neg_ℤ, ◌≤ℤ◌, ◌<ℤ◌, sym, refl, ap, ◌∙◌, subst, inl, inr, arith}
+use Rattle.std.proofs.Common.{◌≡◌, ℕ, zero, suc, ◌+◌, ◌*◌, ◌≤◌, true, List, [], ◌∷◌, map, get_or, ℤ, pos, ◌+ℤ◌, ◌-ℤ◌, ◌*ℤ◌, neg_ℤ, ◌≤ℤ◌, ◌<ℤ◌, sym, refl, ap, ◌∙◌, subst, inl, inr, arith}
 use lib.Signed.{le_z}
 use borrow.Author.Differences.{up, down, neg_is}
 use Rattle.std.proofs.lemmas.Int.{ints, by_lt_z}
 use Rattle.std.proofs.lemmas.Bool.{and_from, cases_lt}
 use Rattle.rows.specs.declared.numbers.Numbers.{Numbers}
-use Rattle.rows.specs.Limits.{columns, items, within}
-use Rattle.rows.specs.Shapes.{item_of, Within, dot_to, dot, Meets, opposite_of}
+use Rattle.rows.specs.Limits.{columns, within}
+use Rattle.rows.specs.Shapes.{Within, dot_to, dot, opposite_of}
 use Rattle.rows.specs.WrittenMade.{TurnsRound}
 use Rattle.rows.proofs.Items.{item-column, item-bound}
-use Rattle.rows.proofs.Bounds.{Bounded, bounded}
+use Rattle.rows.proofs.Bounds.{bounded}
 
 get_or-neg : (cs : List ℤ) (k : ℕ) → get_or (map neg_ℤ cs) k (pos 0) ≡ neg_ℤ (get_or cs k (pos 0))
 get_or-neg [] k = refl

@@ -1,5 +1,5 @@
 -- The limits on numbers, each stated once, and what it is to lie within one.
-use Rattle.std.specs.Prelude.{ℕ, suc, Bool, ◌&&◌, ℤ, pos, neg_ℤ, int_le}
+use Rattle.std.specs.Prelude.{ℕ, Bool, ◌&&◌, ℤ, pos, neg_ℤ, int_le}
 use Rattle.rows.specs.declared.limits.Limit.{Limit}
 use Rattle.rows.specs.declared.limits.Limit.TheVariants.{RowNumber, WrittenNumber, StateValue}
 

@@ -1,6 +1,6 @@
 -- What is made of a caller's numbers: the value with exactly these numbers where all lie within the limit, else the
 -- first number that does not, and nothing else.
-use Rattle.std.specs.Prelude.{◌≡◌, ℕ, ◌<◌, true, false, Ok, Err, Result}
+use Rattle.std.specs.Prelude.{◌≡◌, ℕ, ◌<◌, true, Ok, Err, Result}
 use Rattle.rows.specs.declared.fault.Fault.{Fault}
 use Rattle.rows.specs.declared.fault.FaultKind.TheVariants.{RowNumberTooLarge}
 use Rattle.rows.specs.declared.limits.Limit.TheVariants.{RowNumber}

@@ -1,5 +1,5 @@
 -- The row of zeros.
-use Rattle.std.specs.Prelude.{List, replicate, ℤ, pos}
+use Rattle.std.specs.Prelude.{replicate, pos}
 use Rattle.rows.specs.declared.numbers.Numbers.{Numbers}
 use Rattle.rows.specs.Limits.{columns}
 

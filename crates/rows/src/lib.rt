@@ -1,4 +1,5 @@
 // Rows of whole numbers, the limits on them, and the faults of the product.
+#![tactic(auto)]
 
 pub mod bytes;
 pub mod expression;

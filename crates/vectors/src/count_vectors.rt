@@ -2,6 +2,7 @@
 use crate::helpers::*;
 use methods::{Cut, LookUp, Split};
 use rows::{Answer, FaultKind};
+use std::test::Fail;
 
 // The sheet's rows, the count and the answer: every row is a ≤ 1, and so is the goal.
 fn counts() -> [(usize, usize, Answer); 11] {

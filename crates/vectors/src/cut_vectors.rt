@@ -3,6 +3,7 @@ use crate::helpers::*;
 use methods::{Cut, LookUp};
 use rows::limits::{ITEMS, ROW_LIMIT};
 use rows::{Answer, FaultKind, Numbers};
+use std::test::Fail;
 
 // A cut's own part with one multiplier.
 fn cut_by(divisor: u16, weight: u16) -> [u8; 5] {

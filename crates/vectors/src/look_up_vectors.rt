@@ -3,6 +3,7 @@ use crate::helpers::*;
 use methods::LookUp;
 use rows::limits::{ITEMS, ROW_LIMIT};
 use rows::{Answer, FaultKind, Numbers};
+use std::test::Fail;
 
 // A goal and the answer: the one fact is 2a ≤ 3.
 fn goals() -> [(Numbers, Answer); 6] {

@@ -3,6 +3,7 @@ use crate::helpers::*;
 use methods::Multipliers;
 use rows::limits::ROW_LIMIT;
 use rows::{Answer, FaultKind};
+use std::test::Fail;
 
 // The goal's multiplier, that of the one fact, and the answer: a ≤ 1 from a ≤ 1.
 fn weights() -> [(u16, u16, Answer); 10] {

@@ -3,6 +3,7 @@ use crate::helpers::*;
 use methods::{LookUp, Multipliers, Split};
 use rows::limits::{ITEMS, ROW_LIMIT};
 use rows::{Answer, FaultKind, Numbers};
+use std::test::Fail;
 
 fn split() -> Split<LookUp> {
     Split { below: LookUp }

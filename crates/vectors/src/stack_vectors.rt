@@ -2,6 +2,7 @@
 use crate::helpers::*;
 use methods::{Cut, LookUp, Multipliers, Split};
 use rows::FaultKind;
+use std::test::Fail;
 
 fn stack() -> Split<Cut<Split<LookUp>>> {
     Split {

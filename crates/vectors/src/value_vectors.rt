@@ -3,6 +3,7 @@ use crate::helpers::*;
 use rows::bytes::{byte_at, number_at, word_at};
 use rows::limits::{COLUMNS, ITEMS, VALUE_LIMIT, WRITTEN_LIMIT};
 use rows::{Expression, FaultKind, Point, WrittenRow, moved};
+use std::test::Fail;
 
 // Four bytes, as a number without a sign, and the signed number in them.
 fn numbers() -> [(u32, i64); 7] {

@@ -5,18 +5,18 @@ use Rattle.words.proofs.Reading.{handed-err, ended-ok, ended-err}
 use Rattle.commands.proofs.Parsing.{hex-none, hex-end}
 use Rattle.commands.proofs.parser.only_hex.Goals as goal
 
-pub returns-in-err-hex : goal.returns-in-err-hex
-returns-in-err-hex c =
-    ap word_in (handed-err _ _ c.from-residual.ensures.1)
-    ∙ sym (hex-none _ _ (sym c.hex.ensures.value ∙ ap word_in c.in-err-hex.was))
+pub returns-in_err-hex : goal.returns-in_err-hex
+returns-in_err-hex c =
+    ap word_in (handed-err _ _ c.from_residual.ensures.1)
+    ∙ sym (hex-none _ _ (sym c.hex.ensures.value ∙ ap word_in c.in_err-hex.was))
 
-pub returns-in-err-end : goal.returns-in-err-end
-returns-in-err-end c =
-    ap word_in (handed-err _ _ c.from-residual-in-err-end.ensures.1)
-    ∙ sym (hex-end (left c.args.words) c.in-ok-hex.hex.word.now (sym c.hex.ensures.value ∙ ap word_in c.in-ok-hex.was)
-    ∙ ended-err (tt {0}) _ _ _ (ap (ended (tt {0})) (sym c.hex.ensures.after) ∙ sym c.end.ensures ∙ c.in-err-end.was))
+pub returns-in_err-end : goal.returns-in_err-end
+returns-in_err-end c =
+    ap word_in (handed-err _ _ c.from_residual-in_err-end.ensures.1)
+    ∙ sym (hex-end (left c.args.words) c.in_ok-hex.hex.word.now (sym c.hex.ensures.value ∙ ap word_in c.in_ok-hex.was)
+    ∙ ended-err (tt {0}) _ _ _ (ap (ended (tt {0})) (sym c.hex.ensures.after) ∙ sym c.end.ensures ∙ c.in_err-end.was))
 
 pub returns : goal.returns
 returns c =
-    sym (hex-end (left c.args.words) c.in-ok-hex.hex.word.now (sym c.hex.ensures.value ∙ ap word_in c.in-ok-hex.was)
-    ∙ ended-ok (tt {0}) _ _ (ap (ended (tt {0})) (sym c.hex.ensures.after) ∙ sym c.end.ensures ∙ c.in-ok-end.was))
+    sym (hex-end (left c.args.words) c.in_ok-hex.hex.word.now (sym c.hex.ensures.value ∙ ap word_in c.in_ok-hex.was)
+    ∙ ended-ok (tt {0}) _ _ (ap (ended (tt {0})) (sym c.hex.ensures.after) ∙ sym c.end.ensures ∙ c.in_ok-end.was))

@@ -6,29 +6,29 @@ use Rattle.commands.proofs.Parsing.{line-none, line-comment, line-keyed}
 use Rattle.commands.proofs.Said.{lines-read}
 use Rattle.commands.proofs.parser.parse.Goals as goal
 
-pub returns-in-default : goal.returns-in-default
-returns-in-default c = record { value = sym (line-none _ (ap words_of (sym c.new-words.ensures) ∙ c.in-default.ensures.handed.0)); law = lines-read }
+pub returns-in_default : goal.returns-in_default
+returns-in_default c = record { value = sym (line-none _ (ap words_of (sym c.new-words.ensures) ∙ c.in_default.ensures.handed.0)); law = lines-read }
 
-pub returns-then-starts-with : goal.returns-then-starts-with
-returns-then-starts-with c =
-    let mark = starts_char 35 c.in-Some.first.now _ c.starts-with.ensures.cases (omega arith) (omega arith) in
-    record { value = sym (line-comment _ c.in-Some.first.now _ (ap words_of (sym c.new-words.ensures) ∙ c.in-Some.ensures.handed.0) (mark.0 c.if-starts-with.true)); law = lines-read }
+pub returns-then-starts_with : goal.returns-then-starts_with
+returns-then-starts_with c =
+    let mark = starts_char 35 c.in-Some.first.now _ c.starts_with.ensures.cases (omega arith) (omega arith) in
+    record { value = sym (line-comment _ c.in-Some.first.now _ (ap words_of (sym c.new-words.ensures) ∙ c.in-Some.ensures.handed.0) (mark.0 c.if-starts_with.true)); law = lines-read }
 
 pub returns-in-Some-read : goal.returns-in-Some-read
 returns-in-Some-read c =
-    let mark = starts_char 35 c.in-Some.first.now _ c.starts-with.ensures.cases (omega arith) (omega arith) in
+    let mark = starts_char 35 c.in-Some.first.now _ c.starts_with.ensures.cases (omega arith) (omega arith) in
     record {
       value = c.command.ensures
           ∙ sym (line-keyed _ c.in-Some.first.now _ (ap words_of (sym c.new-words.ensures) ∙ c.in-Some.ensures.handed.0)
-          (not_from_Decides _ mark c.if-starts-with.false) _ (sym c.read.ensures ∙ c.in-Some-read.is));
+          (not_from_Decides _ mark c.if-starts_with.false) _ (sym c.read.ensures ∙ c.in-Some-read.is));
       law = lines-read;
     }
 
 pub returns-in-None : goal.returns-in-None
 returns-in-None c =
-    let mark = starts_char 35 c.in-Some.first.now _ c.starts-with.ensures.cases (omega arith) (omega arith) in
+    let mark = starts_char 35 c.in-Some.first.now _ c.starts_with.ensures.cases (omega arith) (omega arith) in
     record {
       value = sym (line-keyed _ c.in-Some.first.now _ (ap words_of (sym c.new-words.ensures) ∙ c.in-Some.ensures.handed.0)
-          (not_from_Decides _ mark c.if-starts-with.false) _ (sym c.read.ensures ∙ c.in-None.is));
+          (not_from_Decides _ mark c.if-starts_with.false) _ (sym c.read.ensures ∙ c.in-None.is));
       law = lines-read;
     }

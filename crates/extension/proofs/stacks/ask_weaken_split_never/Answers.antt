@@ -4,7 +4,7 @@ use Rattle.extension.proofs.stacks.ask_weaken_split_never.Goals as goal
 pub returns : goal.returns
 returns c =
     record {
-      answer = c.put-weaken-split-never.ensures.answer;
-      kept = c.put-weaken-split-never.ensures.kept;
-      refused = stack-refuses c.args.count c.args.sheet.now c.args.goal.now c.args.certificate.now _ c.put-weaken-split-never.ensures.answer;
+      answer = c.put_weaken_split_never.ensures.answer;
+      kept = c.put_weaken_split_never.ensures.kept;
+      refused = stack-refuses c.args.count c.args.sheet.now c.args.goal.now c.args.certificate.now _ c.put_weaken_split_never.ensures.answer;
     }

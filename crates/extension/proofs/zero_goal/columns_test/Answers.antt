@@ -10,4 +10,4 @@ pub returns-in-None : goal.returns-in-None
 returns-in-None c = ap (unless_found ColumnDiffers) (is-first (uses c.args.goal.now) columns None c.in-None.ensures)
 
 pub returns-in-Some : goal.returns-in-Some
-returns-in-Some c = rw c.with-item.ensures (ap (unless_found ColumnDiffers) (is-first (uses c.args.goal.now) columns (Some c.in-Some.column) c.in-Some.ensures))
+returns-in-Some c = rw c.with_item.ensures (ap (unless_found ColumnDiffers) (is-first (uses c.args.goal.now) columns (Some c.in-Some.column) c.in-Some.ensures))

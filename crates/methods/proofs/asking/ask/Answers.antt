@@ -6,8 +6,8 @@ returns g c =
     let m = g.M.ProofMethod.meaning c.args.method.now in
     let l = g.M.ProofMethod.lawful c.args.method.now in
     record {
-      answer = c.put-question.ensures.answer;
-      kept = c.put-question.ensures.kept;
-      sound = sound-answer m l c.args.count c.args.sheet.now c.args.goal.now c.args.certificate.now _ c.put-question.ensures.answer;
-      placed = placed-answer m l c.args.count c.args.sheet.now c.args.goal.now c.args.certificate.now _ c.put-question.ensures.answer;
+      answer = c.put_question.ensures.answer;
+      kept = c.put_question.ensures.kept;
+      sound = sound-answer m l c.args.count c.args.sheet.now c.args.goal.now c.args.certificate.now _ c.put_question.ensures.answer;
+      placed = placed-answer m l c.args.count c.args.sheet.now c.args.goal.now c.args.certificate.now _ c.put_question.ensures.answer;
     }

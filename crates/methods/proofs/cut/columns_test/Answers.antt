@@ -9,22 +9,22 @@ use Rattle.methods.specs.Weights.{weighted}
 use Rattle.methods.proofs.Divisions.{divisible, not-divisible, coded-rem, rem-zero, zero-rem}
 use Rattle.methods.proofs.cut.columns_test.Goals as goal
 
-pub returns-then-rem-euclid-ne0 : goal.returns-then-rem-euclid-ne0
-returns-then-rem-euclid-ne0 c =
-    let fx : SFits w64 c.weighted-sum-sum.result = search rules in
+pub returns-then-rem_euclid-ne0 : goal.returns-then-rem_euclid-ne0
+returns-then-rem_euclid-ne0 c =
+    let fx : SFits w64 c.weighted_sum-sum.result = search rules in
     let fy : SFits w64 c.from-divisor.result = search rules in
-    let r = coded-rem _ _ _ _ _ fx fy c.rem-euclid.ensures.value c.weighted-sum-sum.ensures (c.from-divisor.ensures ∙ ap (λ (n : ℕ). pos n) c.word-at.ensures) in
-    let d = not-divisible (weighted c.loop-column.column c.args.certificate.now cut_weights_from c.args.facts.now) (divisor c.args.certificate.now) c.requires.divisor-least (λ z. zero-rem _ c.if-rem-euclid-ne0.true (r ∙ z)) in
-    rw c.with-item.ensures (sym (ap (unless_found ColumnDiffers) (some_first (indivisible c.args.facts.now c.args.certificate.now) columns c.loop-column.column c.loop-column-test.true d c.loop-column.invariant)))
+    let r = coded-rem _ _ _ _ _ fx fy c.rem_euclid.ensures.value c.weighted_sum-sum.ensures (c.from-divisor.ensures ∙ ap (λ (n : ℕ). pos n) c.word_at.ensures) in
+    let d = not-divisible (weighted c.loop-column.column c.args.certificate.now cut_weights_from c.args.facts.now) (divisor c.args.certificate.now) c.requires.divisor-least (λ z. zero-rem _ c.if-rem_euclid-ne0.true (r ∙ z)) in
+    rw c.with_item.ensures (sym (ap (unless_found ColumnDiffers) (some_first (indivisible c.args.facts.now c.args.certificate.now) columns c.loop-column.column c.loop-column-test.true d c.loop-column.invariant)))
 
 pub loop-column-preserved : goal.loop-column-preserved
 loop-column-preserved c =
-    let fx : SFits w64 c.weighted-sum-sum.result = search rules in
+    let fx : SFits w64 c.weighted_sum-sum.result = search rules in
     let fy : SFits w64 c.from-divisor.result = search rules in
-    let fr : SFits w64 c.rem-euclid.result = search rules in
-    let r = coded-rem _ _ _ _ _ fx fy c.rem-euclid.ensures.value c.weighted-sum-sum.ensures (c.from-divisor.ensures ∙ ap (λ (n : ℕ). pos n) c.word-at.ensures) in
+    let fr : SFits w64 c.rem_euclid.result = search rules in
+    let r = coded-rem _ _ _ _ _ fx fy c.rem_euclid.ensures.value c.weighted_sum-sum.ensures (c.from-divisor.ensures ∙ ap (λ (n : ℕ). pos n) c.word_at.ensures) in
     below_more _ _ c.loop-column.invariant
-    (divisible (weighted c.loop-column.column c.args.certificate.now cut_weights_from c.args.facts.now) (divisor c.args.certificate.now) c.requires.divisor-least (sym r ∙ rem-zero _ fr c.if-rem-euclid-ne0.false))
+    (divisible (weighted c.loop-column.column c.args.certificate.now cut_weights_from c.args.facts.now) (divisor c.args.certificate.now) c.requires.divisor-least (sym r ∙ rem-zero _ fr c.if-rem_euclid-ne0.false))
 
 pub returns : goal.returns
 returns c =

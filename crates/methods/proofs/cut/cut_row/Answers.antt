@@ -17,38 +17,38 @@ pub returns-then-certificate-facts : goal.returns-then-certificate-facts
 unfolding cut_tests
 returns-then-certificate-facts c = rw c.of.ensures (stops _ _ _ (failed _ _ (lt-leb _ _ c.if-certificate-facts.true)))
 
-pub returns-in-err-range-test : goal.returns-in-err-range-test
+pub returns-in_err-range_test : goal.returns-in_err-range_test
 unfolding cut_tests
-returns-in-err-range-test c =
-    let p = err_from_is_err_and c.from-residual.result c.from-residual.ensures.1 in
-    rw (p.1, p.2) (goes _ _ _ (checked _ _ (le-leb _ _ c.if-certificate-facts.false)) (stops _ _ _ c.in-err-range-test.ensures))
+returns-in_err-range_test c =
+    let p = err_from_is_err_and c.from_residual.result c.from_residual.ensures.1 in
+    rw (p.1, p.2) (goes _ _ _ (checked _ _ (le-leb _ _ c.if-certificate-facts.false)) (stops _ _ _ c.in_err-range_test.ensures))
 
-pub returns-in-err-weights-test : goal.returns-in-err-weights-test
+pub returns-in_err-weights_test : goal.returns-in_err-weights_test
 unfolding cut_tests
-returns-in-err-weights-test c =
-    let p = err_from_is_err_and c.from-residual-in-err-weights-test.result c.from-residual-in-err-weights-test.ensures.1 in
-    rw (p.1, p.2) (goes _ _ _ (checked _ _ (le-leb _ _ c.if-certificate-facts.false)) (goes _ _ _ c.in-ok-range-test.ensures (stops _ _ _ c.in-err-weights-test.ensures)))
+returns-in_err-weights_test c =
+    let p = err_from_is_err_and c.from_residual-in_err-weights_test.result c.from_residual-in_err-weights_test.ensures.1 in
+    rw (p.1, p.2) (goes _ _ _ (checked _ _ (le-leb _ _ c.if-certificate-facts.false)) (goes _ _ _ c.in_ok-range_test.ensures (stops _ _ _ c.in_err-weights_test.ensures)))
 
-pub columns-test-requires : goal.columns-test-requires
-columns-test-requires c =
-    let w = weights-yes c.args.certificate.now cut_weights_from c.args.facts.now (sym c.in-ok-weights-test.ensures) in
-    let g = range-yes 1 c.args.certificate.now divisor_from (sym c.in-ok-range-test.ensures) in
+pub columns_test-requires : goal.columns_test-requires
+columns_test-requires c =
+    let w = weights-yes c.args.certificate.now cut_weights_from c.args.facts.now (sym c.in_ok-weights_test.ensures) in
+    let g = range-yes 1 c.args.certificate.now divisor_from (sym c.in_ok-range_test.ensures) in
     record {
       weighable = record { few = c.requires.few; are-rows = c.requires.are-rows; inside = c.if-certificate-facts.false; in-range = w };
       divisor-least = g.0;
       divisor-most = g.1;
     }
 
-pub returns-in-err-columns-test : goal.returns-in-err-columns-test
+pub returns-in_err-columns_test : goal.returns-in_err-columns_test
 unfolding cut_tests
-returns-in-err-columns-test c =
-    let p = err_from_is_err_and c.from-residual-in-err-columns-test.result c.from-residual-in-err-columns-test.ensures.1 in
-    rw (p.1, p.2) (goes _ _ _ (checked _ _ (le-leb _ _ c.if-certificate-facts.false)) (goes _ _ _ c.in-ok-range-test.ensures (goes _ _ _ c.in-ok-weights-test.ensures (stops _ _ _ c.in-err-columns-test.ensures))))
+returns-in_err-columns_test c =
+    let p = err_from_is_err_and c.from_residual-in_err-columns_test.result c.from_residual-in_err-columns_test.ensures.1 in
+    rw (p.1, p.2) (goes _ _ _ (checked _ _ (le-leb _ _ c.if-certificate-facts.false)) (goes _ _ _ c.in_ok-range_test.ensures (goes _ _ _ c.in_ok-weights_test.ensures (stops _ _ _ c.in_err-columns_test.ensures))))
 
-pub divided-row-row-requires : goal.divided-row-row-requires
-divided-row-row-requires c =
-    let w = weights-yes c.args.certificate.now cut_weights_from c.args.facts.now (sym c.in-ok-weights-test.ensures) in
-    let g = range-yes 1 c.args.certificate.now divisor_from (sym c.in-ok-range-test.ensures) in
+pub divided_row-row-requires : goal.divided_row-row-requires
+divided_row-row-requires c =
+    let w = weights-yes c.args.certificate.now cut_weights_from c.args.facts.now (sym c.in_ok-weights_test.ensures) in
+    let g = range-yes 1 c.args.certificate.now divisor_from (sym c.in_ok-range_test.ensures) in
     record {
       weighable = record { few = c.requires.few; are-rows = c.requires.are-rows; inside = c.if-certificate-facts.false; in-range = w };
       divisor-least = g.0;
@@ -58,14 +58,14 @@ divided-row-row-requires c =
 pub returns-in-None : goal.returns-in-None
 unfolding cut_tests
 returns-in-None c =
-    let b = c.in-None.ensures.value ∙ ap (first_beyond (magnitude_of RowNumber)) c.divided-row-row.ensures in (
-      goes _ _ _ (checked _ _ (le-leb _ _ c.if-certificate-facts.false)) (goes _ _ _ c.in-ok-range-test.ensures (goes _ _ _ c.in-ok-weights-test.ensures (goes _ _ _ c.in-ok-columns-test.ensures (ap (unless_found LayerRowTooLarge) b)))),
-      c.divided-row-row.ensures,
+    let b = c.in-None.ensures.value ∙ ap (first_beyond (magnitude_of RowNumber)) c.divided_row-row.ensures in (
+      goes _ _ _ (checked _ _ (le-leb _ _ c.if-certificate-facts.false)) (goes _ _ _ c.in_ok-range_test.ensures (goes _ _ _ c.in_ok-weights_test.ensures (goes _ _ _ c.in_ok-columns_test.ensures (ap (unless_found LayerRowTooLarge) b)))),
+      c.divided_row-row.ensures,
     )
 
 pub returns-in-Some : goal.returns-in-Some
 unfolding cut_tests
 returns-in-Some c =
-    let b = c.in-Some.ensures.value ∙ ap (first_beyond (magnitude_of RowNumber)) c.divided-row-row.ensures in
-    rw c.with-item.ensures
-    (goes _ _ _ (checked _ _ (le-leb _ _ c.if-certificate-facts.false)) (goes _ _ _ c.in-ok-range-test.ensures (goes _ _ _ c.in-ok-weights-test.ensures (goes _ _ _ c.in-ok-columns-test.ensures (ap (unless_found LayerRowTooLarge) b)))))
+    let b = c.in-Some.ensures.value ∙ ap (first_beyond (magnitude_of RowNumber)) c.divided_row-row.ensures in
+    rw c.with_item.ensures
+    (goes _ _ _ (checked _ _ (le-leb _ _ c.if-certificate-facts.false)) (goes _ _ _ c.in_ok-range_test.ensures (goes _ _ _ c.in_ok-weights_test.ensures (goes _ _ _ c.in_ok-columns_test.ensures (ap (unless_found LayerRowTooLarge) b)))))

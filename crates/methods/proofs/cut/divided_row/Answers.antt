@@ -9,15 +9,15 @@ use Rattle.methods.proofs.cut.divided_row.Goals as goal
 
 pub loop-column-preserved : goal.loop-column-preserved
 loop-column-preserved c =
-    let f : SFits w64 c.divided-item.result = search rules in
+    let f : SFits w64 c.divided_item.result = search rules in
     let l : c.loop-column.column < length c.loop-column.coefficients = omega (arith, c.loop-column.invariant.0) in (
       length-set _ _ _ ∙ c.loop-column.invariant.0,
-      filled_more (divided c.args.facts.now c.args.certificate.now) c.loop-column.coefficients c.loop-column.column _ l c.loop-column.invariant.1 (to_z-of_z w64 _ f ∙ c.divided-item.ensures),
+      filled_more (divided c.args.facts.now c.args.certificate.now) c.loop-column.coefficients c.loop-column.column _ l c.loop-column.invariant.1 (to_z-of_z w64 _ f ∙ c.divided_item.ensures),
     )
 
 pub returns : goal.returns
 returns c =
-    let f : SFits w64 c.divided-bound-bound.result = search rules in
+    let f : SFits w64 c.divided_bound-bound.result = search rules in
     same_numbers _ _ _ _
     (filled-all (divided c.args.facts.now c.args.certificate.now) c.loop-column.coefficients columns c.loop-column.column c.loop-column.invariant.0 c.loop-column-test.false c.loop-column.auto.column-end c.loop-column.invariant.1)
-    (to_z-of_z w64 _ f ∙ c.divided-bound-bound.ensures)
+    (to_z-of_z w64 _ f ∙ c.divided_bound-bound.ensures)

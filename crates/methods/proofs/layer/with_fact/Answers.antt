@@ -8,7 +8,7 @@ use Rattle.methods.proofs.layer.with_fact.Goals as goal
 pub returns : goal.returns
 returns g c =
     let m = g.M.ProofMethod.meaning c.args.below.now in
-    let e = c.put-behind.ensures in
+    let e = c.put_behind.ensures in
     record {
       answer = added-answer m c.args.count c.args.sheet.now c.args.fact c.args.goal.now c.args.part.now c.args.offset c.handed.result c.requires.within
           (subst (λ (s : List Numbers). c.handed.result ≡ moved c.args.offset (m (question (take (c.args.count + 1) s) c.args.goal.now c.args.part.now (length s)))) e c.handed.ensures.answer);

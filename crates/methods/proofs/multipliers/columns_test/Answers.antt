@@ -9,14 +9,14 @@ use Rattle.methods.proofs.multipliers.columns_test.Goals as goal
 
 pub returns-then-sum-whole : goal.returns-then-sum-whole
 returns-then-sum-whole c =
-    let d = bits-differ _ _ _ _ c.if-sum-whole.true c.weighted-sum-sum.ensures c.scaled-item-whole.ensures in
-    rw c.with-item.ensures (sym (ap (unless_found ColumnDiffers) (some_first (differs c.args.facts.now c.args.goal.now c.args.certificate.now) columns c.loop-column.column c.loop-column-test.true d c.loop-column.invariant)))
+    let d = bits-differ _ _ _ _ c.if-sum-whole.true c.weighted_sum-sum.ensures c.scaled_item-whole.ensures in
+    rw c.with_item.ensures (sym (ap (unless_found ColumnDiffers) (some_first (differs c.args.facts.now c.args.goal.now c.args.certificate.now) columns c.loop-column.column c.loop-column-test.true d c.loop-column.invariant)))
 
 pub loop-column-preserved : goal.loop-column-preserved
 loop-column-preserved c =
-    let f : SFits w64 c.weighted-sum-sum.result = search rules in
-    let g : SFits w64 c.scaled-item-whole.result = search rules in
-    below_more _ _ c.loop-column.invariant (bits-same _ _ _ _ f g c.if-sum-whole.false c.weighted-sum-sum.ensures c.scaled-item-whole.ensures)
+    let f : SFits w64 c.weighted_sum-sum.result = search rules in
+    let g : SFits w64 c.scaled_item-whole.result = search rules in
+    below_more _ _ c.loop-column.invariant (bits-same _ _ _ _ f g c.if-sum-whole.false c.weighted_sum-sum.ensures c.scaled_item-whole.ensures)
 
 pub returns : goal.returns
 returns c =

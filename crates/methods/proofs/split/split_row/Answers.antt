@@ -5,18 +5,18 @@ use Rattle.methods.proofs.split.split_row.Goals as goal
 
 pub returns-then-certificate-length : goal.returns-then-certificate-length
 returns-then-certificate-length c =
-    let e : first_from + c.from-length.result ≡ second_from c.args.certificate.now = ap (λ (n : ℕ). first_from + n) (c.from-length.ensures ∙ c.word-at.ensures) in
+    let e : first_from + c.from-length.result ≡ second_from c.args.certificate.now = ap (λ (n : ℕ). first_from + n) (c.from-length.ensures ∙ c.word_at.ensures) in
     rw c.of.ensures (row-short c.args.certificate.now (subst (λ (n : ℕ). length c.args.certificate.now < n) e c.if-certificate-length.true))
 
 pub returns-in-Ok : goal.returns-in-Ok
 returns-in-Ok c =
-    let e : first_from + c.from-length.result ≡ second_from c.args.certificate.now = ap (λ (n : ℕ). first_from + n) (c.from-length.ensures ∙ c.word-at.ensures) in
+    let e : first_from + c.from-length.result ≡ second_from c.args.certificate.now = ap (λ (n : ℕ). first_from + n) (c.from-length.ensures ∙ c.word_at.ensures) in
     let w = c.in-Ok.ensures in (
-      row_written c.args.certificate.now c.split-numbers.result (subst (λ (n : ℕ). n ≤ length c.args.certificate.now) e c.if-certificate-length.false) c.split-numbers.ensures w.1,
-      w.0 ∙ c.split-numbers.ensures,
+      row_written c.args.certificate.now c.split_numbers.result (subst (λ (n : ℕ). n ≤ length c.args.certificate.now) e c.if-certificate-length.false) c.split_numbers.ensures w.1,
+      w.0 ∙ c.split_numbers.ensures,
     )
 
 pub returns-in-Err : goal.returns-in-Err
 returns-in-Err c =
-    let e : first_from + c.from-length.result ≡ second_from c.args.certificate.now = ap (λ (n : ℕ). first_from + n) (c.from-length.ensures ∙ c.word-at.ensures) in
-    rw c.from.ensures (row-too-large c.args.certificate.now c.split-numbers.result c.in-Err.item (subst (λ (n : ℕ). n ≤ length c.args.certificate.now) e c.if-certificate-length.false) c.split-numbers.ensures c.in-Err.ensures)
+    let e : first_from + c.from-length.result ≡ second_from c.args.certificate.now = ap (λ (n : ℕ). first_from + n) (c.from-length.ensures ∙ c.word_at.ensures) in
+    rw c.from.ensures (row-too-large c.args.certificate.now c.split_numbers.result c.in-Err.item (subst (λ (n : ℕ). n ≤ length c.args.certificate.now) e c.if-certificate-length.false) c.split_numbers.ensures c.in-Err.ensures)

@@ -11,13 +11,13 @@ loop-i-init c =
     let z : c.args.at + 2 * 0 ≡ c.args.at = omega arith in
     ap (λ (n : ℕ). weights_say c.args.bytes.now n c.args.facts.now) z
 
-pub returns-in-err-range-test : goal.returns-in-err-range-test
-returns-in-err-range-test c =
-    let p = err_from_is_err_and c.from-residual.result c.from-residual.ensures.1 in
-    rw (p.1, p.2) (weights-fault c.args.bytes.now c.args.at _ _ c.loop-i.invariant no_numbers _ c.loop-i-test.true c.in-err-range-test.ensures)
+pub returns-in_err-range_test : goal.returns-in_err-range_test
+returns-in_err-range_test c =
+    let p = err_from_is_err_and c.from_residual.result c.from_residual.ensures.1 in
+    rw (p.1, p.2) (weights-fault c.args.bytes.now c.args.at _ _ c.loop-i.invariant no_numbers _ c.loop-i-test.true c.in_err-range_test.ensures)
 
 pub loop-i-preserved : goal.loop-i-preserved
-loop-i-preserved c = weights-more c.args.bytes.now c.args.at _ _ c.loop-i.invariant no_numbers c.loop-i-test.true c.in-ok-range-test.ensures
+loop-i-preserved c = weights-more c.args.bytes.now c.args.at _ _ c.loop-i.invariant no_numbers c.loop-i-test.true c.in_ok-range_test.ensures
 
 pub returns : goal.returns
 returns c = weights-all c.args.bytes.now c.args.at _ _ c.loop-i.invariant c.loop-i-test.false

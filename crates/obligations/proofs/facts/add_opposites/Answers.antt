@@ -21,7 +21,7 @@ loop-index-preserved c =
     let f = c.len.ensures.value in
     let l : c.loop-index.index < length xs = omega (arith, t, e, f, c.loop-index-test.true) in
     appended-more (listed c.args.facts.now) (listed c.loop-index.facts) (map opposite_of xs) c.loop-index.index c.loop-index.invariant zero_numbers c.numbers.result.now (listed c.push.new.self) c.push.result most_facts
-    (omega (arith, o, l)) (c.numbers.ensures ∙ c.opposite-opposite.ensures.value ∙ ap opposite_of c.test-at.ensures ∙ sym (get_or-map opposite_of xs c.loop-index.index zero_numbers zero_numbers l))
+    (omega (arith, o, l)) (c.numbers.ensures ∙ c.opposite-opposite.ensures.value ∙ ap opposite_of c.test_at.ensures ∙ sym (get_or-map opposite_of xs c.loop-index.index zero_numbers zero_numbers l))
     (omega (arith, m, t, o, c.requires)) c.push.ensures.took c.push.ensures.listed
 
 pub returns : goal.returns

@@ -13,7 +13,7 @@ loop-index-preserved g c =
     let n = c.len-index-end.ensures.value ∙ sym (length-map (listed c.args.rows.now) row_of) in
     let m = plain-most row_of c.args.rows.now in
     appended-more (listed c.args.facts.now) (listed c.loop-index.facts) rows c.loop-index.index c.loop-index.invariant zero_numbers c.numbers.result.now (listed c.push.new.self) c.push.result most_facts
-    (omega (arith, n, c.loop-index-test.true)) (c.numbers.ensures ∙ c.read-at-row.ensures) (omega (arith, m, c.requires)) c.push.ensures.took c.push.ensures.listed
+    (omega (arith, n, c.loop-index-test.true)) (c.numbers.ensures ∙ c.read_at-row.ensures) (omega (arith, m, c.requires)) c.push.ensures.took c.push.ensures.listed
 
 pub returns : goal.returns
 returns g c =

@@ -14,16 +14,16 @@ use Rattle.obligations.specs.Facts.{most_facts}
 use Rattle.obligations.proofs.EntryTests.{opposites-most}
 use Rattle.obligations.proofs.ShortLists.{plain-most, at_plain}
 use Rattle.obligations.proofs.facts.condition_and_entry.Goals as goal
-use Rattle.obligations.proofs.facts.condition_and_entry.Goals.{After-add-rows, After-add-opposites, After-get}
+use Rattle.obligations.proofs.facts.condition_and_entry.Goals.{After-add_rows, After-add_opposites, After-get}
 
 -- the condition stands there, then the opposites
-conditions : (c : After-add-rows) → listed c.add-rows.new.facts ≡ plain_list row_of c.args.place.now.condition
-conditions c = c.add-rows.ensures ∙ ap (λ (xs : List Numbers). xs ++ plain_list row_of c.args.place.now.condition) c.no-facts-facts.ensures
+conditions : (c : After-add_rows) → listed c.add_rows.new.facts ≡ plain_list row_of c.args.place.now.condition
+conditions c = c.add_rows.ensures ∙ ap (λ (xs : List Numbers). xs ++ plain_list row_of c.args.place.now.condition) c.no_facts-facts.ensures
 
-opposites : (c : After-add-opposites) → listed c.add-opposites.new.facts ≡ plain_list row_of c.args.place.now.condition ++ map opposite_of (take c.args.entry (tests (plain_list entry_of c.args.place.now.tested)))
+opposites : (c : After-add_opposites) → listed c.add_opposites.new.facts ≡ plain_list row_of c.args.place.now.condition ++ map opposite_of (take c.args.entry (tests (plain_list entry_of c.args.place.now.tested)))
 opposites c =
-    c.add-opposites.ensures
-    ∙ ap (λ (xs : List Numbers). xs ++ map opposite_of (take c.args.entry (tests (plain_list entry_of c.args.place.now.tested)))) (conditions (goal.at.After-add-opposites c).After-add-rows)
+    c.add_opposites.ensures
+    ∙ ap (λ (xs : List Numbers). xs ++ map opposite_of (take c.args.entry (tests (plain_list entry_of c.args.place.now.tested)))) (conditions (goal.at.After-add_opposites c).After-add_rows)
 
 -- the entry's own test, if it has one
 own : (c : After-get) (o : Option PlanEntry) → o ≡ at c.args.entry (listed c.args.place.now.tested) →
@@ -33,9 +33,9 @@ own c o e =
     ap (λ (x : Option EntryData). plain_list row_of c.args.place.now.condition ++ (map opposite_of (take c.args.entry (tests (plain_list entry_of c.args.place.now.tested))) ++ own_test x))
     (at_plain entry_of c.args.entry (listed c.args.place.now.tested) o e)
 
-pub add-opposites-requires : goal.add-opposites-requires
-add-opposites-requires c =
-    let e = ap length (conditions (goal.at.add-opposites-requires c).After-add-rows) in
+pub add_opposites-requires : goal.add_opposites-requires
+add_opposites-requires c =
+    let e = ap length (conditions (goal.at.add_opposites-requires c).After-add_rows) in
     let m = plain-most row_of c.args.place.now.condition in
     omega (arith, e, m)
 
@@ -43,22 +43,22 @@ pub returns-in-Some : goal.returns-in-Some
 returns-in-Some c =
     let cs = plain_list row_of c.args.place.now.condition in
     let os = map opposite_of (take c.args.entry (tests (plain_list entry_of c.args.place.now.tested))) in
-    let e = opposites (goal.at.returns-in-Some c).After-add-opposites in
+    let e = opposites (goal.at.returns-in-Some c).After-add_opposites in
     let l = length-append cs os in
     let m = plain-most row_of c.args.place.now.condition in
     let k = opposites-most c.args.place.now.tested c.args.entry in
     let s = ap length e in
-    let room : length (listed c.add-opposites.new.facts) < most_facts = omega (arith, l, m, k, s) in
-    took-held c.push.result _ most_facts (listed c.push.new.self) (listed c.add-opposites.new.facts ++ c.numbers.result.now ∷ []) (listed c.add-opposites.new.facts) c.push.ensures.took room c.push.ensures.listed
-    ∙ ap (λ (x : Numbers). listed c.add-opposites.new.facts ++ x ∷ []) c.numbers.ensures
+    let room : length (listed c.add_opposites.new.facts) < most_facts = omega (arith, l, m, k, s) in
+    took-held c.push.result _ most_facts (listed c.push.new.self) (listed c.add_opposites.new.facts ++ c.numbers.result.now ∷ []) (listed c.add_opposites.new.facts) c.push.ensures.took room c.push.ensures.listed
+    ∙ ap (λ (x : Numbers). listed c.add_opposites.new.facts ++ x ∷ []) c.numbers.ensures
     ∙ ap (λ (xs : List Numbers). xs ++ c.in-Some.tested.test.numbers ∷ []) e
     ∙ append_assoc cs os (c.in-Some.tested.test.numbers ∷ [])
     ∙ own (goal.at.returns-in-Some c).After-get (Some c.in-Some.tested) c.in-Some.ensures
 
-pub returns-in-default : goal.returns-in-default
-returns-in-default c =
+pub returns-in_default : goal.returns-in_default
+returns-in_default c =
     let cs = plain_list row_of c.args.place.now.condition in
     let os = map opposite_of (take c.args.entry (tests (plain_list entry_of c.args.place.now.tested))) in
-    opposites (goal.at.returns-in-default c).After-add-opposites
+    opposites (goal.at.returns-in_default c).After-add_opposites
     ∙ ap (λ (xs : List Numbers). cs ++ xs) (sym (append-nil os))
-    ∙ own (goal.at.returns-in-default c).After-get None c.in-default.ensures
+    ∙ own (goal.at.returns-in_default c).After-get None c.in_default.ensures

@@ -5,8 +5,8 @@ use Rattle.records.specs.Records.{row_of}
 use Rattle.obligations.proofs.ShortLists.{plain-most}
 use Rattle.obligations.proofs.facts.condition_and_guard.Goals as goal
 
-pub add-rows-requires-2 : goal.add-rows-requires-2
-add-rows-requires-2 c =
-    let e = ap length (c.add-rows.ensures ∙ ap (λ (xs : List Numbers). xs ++ plain_list row_of c.args.place.now.condition) c.no-facts-facts.ensures) in
+pub add_rows-requires-2 : goal.add_rows-requires-2
+add_rows-requires-2 c =
+    let e = ap length (c.add_rows.ensures ∙ ap (λ (xs : List Numbers). xs ++ plain_list row_of c.args.place.now.condition) c.no_facts-facts.ensures) in
     let m = plain-most row_of c.args.place.now.condition in
     omega (arith, e, m)

@@ -21,8 +21,8 @@ loop-column-preserved c =
 
 pub returns : goal.returns
 returns c =
-    let f : SFits w64 c.lowered-bound-bound.result = search rules in
-    let e = same_numbers _ _ _ _ (each-filled _ c.loop-column.coefficients c.loop-column.column c.loop-column.invariant c.loop-column-test.false) (to_z-of_z w64 _ f ∙ c.lowered-bound-bound.ensures) in
+    let f : SFits w64 c.lowered_bound-bound.result = search rules in
+    let e = same_numbers _ _ _ _ (each-filled _ c.loop-column.coefficients c.loop-column.column c.loop-column.invariant c.loop-column-test.false) (to_z-of_z w64 _ f ∙ c.lowered_bound-bound.ensures) in
     record {
       value = e;
       held = subst (Within (magnitude_of RowNumber)) (sym e) (after-update-within c.args.transition.now c.args.row.now);

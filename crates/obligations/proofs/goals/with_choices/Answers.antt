@@ -16,13 +16,13 @@ loop-column-init c = filled_none columns _
 
 pub loop-column-preserved : goal.loop-column-preserved
 loop-column-preserved c =
-    let f : SFits w64 c.kept-or-zero.result = search rules in
-    filled-coded columns _ c.loop-column.coefficients c.loop-column.column _ c.loop-column.invariant c.loop-column-test.true f c.kept-or-zero.ensures
+    let f : SFits w64 c.kept_or_zero.result = search rules in
+    filled-coded columns _ c.loop-column.coefficients c.loop-column.column _ c.loop-column.invariant c.loop-column-test.true f c.kept_or_zero.ensures
 
 pub returns : goal.returns
 returns c =
-    let f : SFits w64 c.lowered-bound-bound.result = search rules in
-    let e = same_numbers _ _ _ _ (each-filled _ c.loop-column.coefficients c.loop-column.column c.loop-column.invariant c.loop-column-test.false) (to_z-of_z w64 _ f ∙ c.lowered-bound-bound.ensures) in
+    let f : SFits w64 c.lowered_bound-bound.result = search rules in
+    let e = same_numbers _ _ _ _ (each-filled _ c.loop-column.coefficients c.loop-column.column c.loop-column.invariant c.loop-column-test.false) (to_z-of_z w64 _ f ∙ c.lowered_bound-bound.ensures) in
     record {
       value = e;
       held = subst (Within (magnitude_of RowNumber)) (sym e) (with-choices-within c.args.inner.now c.args.row.now);

@@ -8,5 +8,5 @@ use Rattle.obligations.proofs.lookups.inner_with.Goals as goal
 
 pub returns : goal.returns
 returns c =
-    ap (option_map inner_of) c.record-with.ensures
+    ap (option_map inner_of) c.record_with.ensures
     ∙ first_plain inner_of (λ (x : Inner). x.number) (λ (x : InnerData). x.number) c.args.number (held c.args.inners.now) (λ x. refl)

@@ -8,5 +8,5 @@ use Rattle.obligations.proofs.lookups.place_with.Goals as goal
 
 pub returns : goal.returns
 returns c =
-    ap (option_map place_record_of) c.record-with.ensures
+    ap (option_map place_record_of) c.record_with.ensures
     ∙ first_plain place_record_of (λ (x : Place). x.number) (λ (x : PlaceData). x.number) c.args.number (held c.args.places.now) (λ x. refl)

@@ -8,5 +8,5 @@ use Rattle.obligations.proofs.lookups.transition_with.Goals as goal
 
 pub returns : goal.returns
 returns c =
-    ap (option_map transition_of) c.record-with.ensures
+    ap (option_map transition_of) c.record_with.ensures
     ∙ first_plain transition_of (λ (x : Transition). x.number) (λ (x : TransitionData). x.number) c.args.number (held c.args.table.now) (λ x. refl)

@@ -6,26 +6,26 @@ use Rattle.records.specs.Records.{row_of}
 use Rattle.semantics.specs.Plans.{meets}
 use Rattle.obligations.proofs.UnmetRows.{met_at, none-unmet, some-unmet}
 use Rattle.obligations.proofs.meeting.first_unmet.Goals as goal
-use Rattle.obligations.proofs.meeting.first_unmet.Goals.{After-is-met}
+use Rattle.obligations.proofs.meeting.first_unmet.Goals.{After-is_met}
 use Rattle.obligations.proofs.meeting.first_unmet.Given as given
 
-module _ (g : given.Over) (c : After-is-met g) where
+module _ (g : given.Over) (c : After-is_met g) where
   -- what the code tests is the row with the index
-  tested : c.is-met.result ≡ meets c.args.point.now.values (get_or (plain_list row_of c.args.rows.now) c.loop-index.index zero_numbers)
+  tested : c.is_met.result ≡ meets c.args.point.now.values (get_or (plain_list row_of c.args.rows.now) c.loop-index.index zero_numbers)
   tested =
-      met_at c.args.point.now.values c.read-at-row.result.numbers (plain_list row_of c.args.rows.now) c.loop-index.index _ c.is-met.ensures
-      c.read-at-row.ensures
+      met_at c.args.point.now.values c.read_at-row.result.numbers (plain_list row_of c.args.rows.now) c.loop-index.index _ c.is_met.ensures
+      c.read_at-row.ensures
 
-pub returns-then-not-is-met : goal.returns-then-not-is-met
-returns-then-not-is-met g c =
-    let t = tested g (goal.at.returns-then-not-is-met g c).After-is-met in
+pub returns-then-not-is_met : goal.returns-then-not-is_met
+returns-then-not-is_met g c =
+    let t = tested g (goal.at.returns-then-not-is_met g c).After-is_met in
     let l = subst (λ (n : ℕ). c.loop-index.index < n) (c.len-index-end.ensures.value ∙ sym (length-map (listed c.args.rows.now) row_of)) c.loop-index-test.true in
-    some-unmet c.args.point.now.values (plain_list row_of c.args.rows.now) c.loop-index.index l (ap not (sym t ∙ c.if-not-is-met.true)) c.loop-index.invariant
+    some-unmet c.args.point.now.values (plain_list row_of c.args.rows.now) c.loop-index.index l (ap not (sym t ∙ c.if-not-is_met.true)) c.loop-index.invariant
 
 pub loop-index-preserved : goal.loop-index-preserved
 loop-index-preserved g c =
-    let t = tested g (goal.at.loop-index-preserved g c).After-is-met in
-    below_more _ _ c.loop-index.invariant (ap not (sym t ∙ c.if-not-is-met.false))
+    let t = tested g (goal.at.loop-index-preserved g c).After-is_met in
+    below_more _ _ c.loop-index.invariant (ap not (sym t ∙ c.if-not-is_met.false))
 
 pub returns : goal.returns
 returns g c =

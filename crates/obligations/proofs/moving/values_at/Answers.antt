@@ -11,8 +11,8 @@ loop-index-init g c = filled_none g.row.N _
 
 pub loop-index-preserved : goal.loop-index-preserved
 loop-index-preserved g c =
-    let f : SFits w64 c.value-at.result = search rules in
-    filled-coded g.row.N _ c.loop-index.values c.loop-index.index _ c.loop-index.invariant c.loop-index-test.true f (c.value-at.ensures ∙ ap (value_at c.args.point.now.values) c.read-at-expression.ensures)
+    let f : SFits w64 c.value_at.result = search rules in
+    filled-coded g.row.N _ c.loop-index.values c.loop-index.index _ c.loop-index.invariant c.loop-index-test.true f (c.value_at.ensures ∙ ap (value_at c.args.point.now.values) c.read_at-expression.ensures)
 
 pub returns : goal.returns
 returns g c =

@@ -4,5 +4,5 @@ use Rattle.obligations.proofs.reading.read_at.Goals as goal
 
 pub returns : goal.returns
 returns g c =
-    read-from g.T.Written.plain (listed c.args.list.now) c.args.index c.zero.result c.unwrap-or.result c.get.result _
-    c.unwrap-or.ensures c.get.ensures c.zero.ensures
+    read-from g.T.Written.plain (listed c.args.list.now) c.args.index c.zero.result c.unwrap_or.result c.get.result _
+    c.unwrap_or.ensures c.get.ensures c.zero.ensures

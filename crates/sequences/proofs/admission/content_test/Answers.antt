@@ -9,19 +9,19 @@ use Rattle.formats.specs.Witnesses.{Progress, named_in, numbers_in, witness_at, 
 use Rattle.formats.proofs.PieceTests.{given-ok, given-err}
 use Rattle.sequences.proofs.admission.content_test.Goals as goal
 
-pub returns-in-err-noted : goal.returns-in-err-noted
+pub returns-in_err-noted : goal.returns-in_err-noted
 unfolding content_says
-returns-in-err-noted c =
-    let p = err_from_is_err_and c.from-residual.result c.from-residual.ensures.1 in
-    rw (p.1, p.2) (stops _ _ _ (given-err _ _ _ c.in-err-noted.ensures ∙ ap (λ (z : Shape). pieces_say z c.args.bytes.now) c.shape-shape.ensures))
+returns-in_err-noted c =
+    let p = err_from_is_err_and c.from_residual.result c.from_residual.ensures.1 in
+    rw (p.1, p.2) (stops _ _ _ (given-err _ _ _ c.in_err-noted.ensures ∙ ap (λ (z : Shape). pieces_say z c.args.bytes.now) c.shape-shape.ensures))
 
 pub returns : goal.returns
 unfolding content_says
 returns c =
-    let o = given-ok _ _ _ c.in-ok-noted.ensures in
+    let o = given-ok _ _ _ c.in_ok-noted.ensures in
     let b = c.args.bytes.now in
     let ts = map transition_of (held c.args.table.now) in
     goes _ _ _ (o.0 ∙ ap (λ (z : Shape). pieces_say z b) c.shape-shape.ensures)
-    (c.references-test.ensures
+    (c.references_test.ensures
     ∙ ap (λ (s : Progress). references_say c.shape-shape.result (named_in ts s) (pieces_of b)) o.1
     ∙ ap (λ (z : Shape). references_say z (named_in ts (numbers_in (witness_at z b))) (pieces_of b)) c.shape-shape.ensures)

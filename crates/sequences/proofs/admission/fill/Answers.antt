@@ -16,7 +16,7 @@ use Rattle.formats.proofs.PieceTests.{given-ok, given-err}
 use Rattle.formats.proofs.WalkSteps.{pieces-all}
 use Rattle.sequences.proofs.WitnessWalks.{Walking, ahead, walking-begins, walking-lost, walking-refused, walking-passes, walking-more, next-places, next-inners}
 use Rattle.sequences.proofs.admission.fill.Goals as goal
-use Rattle.sequences.proofs.admission.fill.Goals.{In-Some, In-ok-found, After-keep}
+use Rattle.sequences.proofs.admission.fill.Goals.{In-Some, In_ok-found, After-keep}
 
 pub loop-piece-init : goal.loop-piece-init
 unfolding pieces_of
@@ -24,16 +24,16 @@ loop-piece-init c =
     let e = sym c.new-noted.ensures in (
       subst (Walking c.args.shape c.args.bytes.now (record { bytes = c.args.bytes.now; at = pieces_from })) e (walking-begins c.args.shape c.args.bytes.now),
       subst (λ (s : Progress). Filled place_record_of (witness_at c.args.shape c.args.bytes.now).places (witness_at c.args.shape c.args.bytes.now).places s.places c.args.places.now c.args.places.now) e
-          (filled-begins place_record_of (witness_at c.args.shape c.args.bytes.now).places c.args.places.now c.requires.no-places),
+          (filled-begins place_record_of (witness_at c.args.shape c.args.bytes.now).places c.args.places.now c.requires.no_places),
       subst (λ (s : Progress). Filled inner_of (witness_at c.args.shape c.args.bytes.now).inners (witness_at c.args.shape c.args.bytes.now).inners s.inners c.args.inners.now c.args.inners.now) e
-          (filled-begins inner_of (witness_at c.args.shape c.args.bytes.now).inners c.args.inners.now c.requires.no-inners),
+          (filled-begins inner_of (witness_at c.args.shape c.args.bytes.now).inners c.args.inners.now c.requires.no_inners),
     )
 
 module _ (c : In-Some) where
   handed : Given (reader_of c.loop-piece.reader) (data_of c.in-Some.piece)
   handed =
       some-handed (reader_of c.loop-piece.reader) (data_of c.in-Some.piece)
-      (ap (λ (o : Option WitnessPiece). Ok (option_map data_of o)) (sym c.in-Some.is) ∙ c.in-ok-piece.ensures.handed)
+      (ap (λ (o : Option WitnessPiece). Ok (option_map data_of o)) (sym c.in-Some.is) ∙ c.in_ok-piece.ensures.handed)
 
   short : length c.loop-piece.reader.bytes.now < 2 ^ 64
   short =
@@ -43,9 +43,9 @@ module _ (c : In-Some) where
   passes : Ok tt ≡ body_by c.args.shape (progress_of c.loop-piece.noted) (data_of c.in-Some.piece)
   passes = walking-passes c.args.shape c.args.bytes.now (reader_of c.loop-piece.reader) (progress_of c.loop-piece.noted) c.loop-piece.invariant.0 (data_of c.in-Some.piece) handed c.requires.passed
 
-pub returns-in-err-piece : goal.returns-in-err-piece
-returns-in-err-piece c =
-    let h = fault-handed (reader_of c.loop-piece.reader) _ c.in-err-piece.ensures.handed in
+pub returns-in_err-piece : goal.returns-in_err-piece
+returns-in_err-piece c =
+    let h = fault-handed (reader_of c.loop-piece.reader) _ c.in_err-piece.ensures.handed in
     never _ (walking-lost c.args.shape c.args.bytes.now (reader_of c.loop-piece.reader) (progress_of c.loop-piece.noted) c.loop-piece.invariant.0 _ h.0 h.1 ∙ sym c.requires.passed)
 
 pub read-requires : goal.read-requires
@@ -53,28 +53,28 @@ read-requires c =
     let d = (goal.at.read-requires c).In-Some in
     record { located = part-located (reader_of c.loop-piece.reader) (data_of c.in-Some.piece) (handed d) (short d); choices = c.requires.choices }
 
-pub returns-in-err-found : goal.returns-in-err-found
-returns-in-err-found c =
-    let d = (goal.at.returns-in-err-found c).In-Some in
-    never _ (given-err _ _ _ c.in-err-found.ensures.answer ∙ sym (passes d))
+pub returns-in_err-found : goal.returns-in_err-found
+returns-in_err-found c =
+    let d = (goal.at.returns-in_err-found c).In-Some in
+    never _ (given-err _ _ _ c.in_err-found.ensures.answer ∙ sym (passes d))
 
 -- what was read
-read : (c : In-ok-found) → record_of c.in-ok-found.found ≡ record_by c.args.shape (data_of c.in-Some.piece)
-read c = (given-ok _ _ _ c.in-ok-found.ensures.answer).1
+read : (c : In_ok-found) → record_of c.in_ok-found.found ≡ record_by c.args.shape (data_of c.in-Some.piece)
+read c = (given-ok _ _ _ c.in_ok-found.ensures.answer).1
 
 pub keep-requires : goal.keep-requires
 keep-requires c =
     let d = (goal.at.keep-requires c).In-Some in
-    let f = (goal.at.keep-requires c).In-ok-found in
+    let f = (goal.at.keep-requires c).In_ok-found in
     subst (λ (x : RecordData). Roomy x c.loop-piece.places c.loop-piece.inners) (sym (read f))
     (roomy c.args.shape (progress_of c.loop-piece.noted) c.loop-piece.places c.loop-piece.inners (data_of c.in-Some.piece) (passes d) c.loop-piece.invariant.1.many c.loop-piece.invariant.2.many
-    (subst (λ (n : ℕ). most_places ≤ n) (sym c.loop-piece.invariant.1.room-is) c.requires.places-room)
-    (subst (λ (n : ℕ). most_inners ≤ n) (sym c.loop-piece.invariant.2.room-is) c.requires.inners-room))
+    (subst (λ (n : ℕ). most_places ≤ n) (sym c.loop-piece.invariant.1.room-is) c.requires.places_room)
+    (subst (λ (n : ℕ). most_inners ≤ n) (sym c.loop-piece.invariant.2.room-is) c.requires.inners_room))
 
 pub loop-piece-preserved : goal.loop-piece-preserved
 loop-piece-preserved c =
     let d = (goal.at.loop-piece-preserved c).In-Some in
-    let f = (goal.at.loop-piece-preserved c).In-ok-found in
+    let f = (goal.at.loop-piece-preserved c).In_ok-found in
     let shape = c.args.shape in
     let bytes = c.args.bytes.now in
     let r = reader_of c.loop-piece.reader in
@@ -82,7 +82,7 @@ loop-piece-preserved c =
     let p = data_of c.in-Some.piece in
     let w = c.loop-piece.invariant.0 in
     let e = read f in
-    let after = c.in-ok-found.ensures.after in
+    let after = c.in_ok-found.ensures.after in
     let stands = c.next.ensures.stands in
     let xs = places_of shape (ahead (passed_at r)) in
     let ys = inners_of shape (ahead (passed_at r)) in
@@ -96,12 +96,12 @@ loop-piece-preserved c =
           (subst (λ (zs : List PlaceData). Filled place_record_of (witness_at shape bytes).places zs s.places c.args.places.now c.loop-piece.places) (next-places shape bytes r s w p (handed d)) c.loop-piece.invariant.1)
           (c.keep.ensures.places ∙ ap (λ (x : RecordData). places_added x (map place_record_of (held c.loop-piece.places))) e)
           (c.keep.ensures.places_behind ∙ ap (λ (x : RecordData). drop (place_count x) (behind c.loop-piece.places)) e)
-          c.keep.ensures.places-room,
+          c.keep.ensures.places_room,
       inners-after shape s inner_of (witness_at shape bytes).inners ys c.args.inners.now c.loop-piece.inners c.keep.new.inners p
           (subst (λ (zs : List InnerData). Filled inner_of (witness_at shape bytes).inners zs s.inners c.args.inners.now c.loop-piece.inners) (next-inners shape bytes r s w p (handed d)) c.loop-piece.invariant.2)
           (c.keep.ensures.inners ∙ ap (λ (x : RecordData). inners_added x (map inner_of (held c.loop-piece.inners))) e)
-          (c.keep.ensures.inners-behind ∙ ap (λ (x : RecordData). drop (inner_count x) (behind c.loop-piece.inners)) e)
-          c.keep.ensures.inners-room,
+          (c.keep.ensures.inners_behind ∙ ap (λ (x : RecordData). drop (inner_count x) (behind c.loop-piece.inners)) e)
+          c.keep.ensures.inners_room,
     ) in
     subst (λ (q : ReaderData). known q (progress_of c.read.new.self)) (sym stands) (subst (known (passed_at r)) (sym after) here)
 
@@ -112,7 +112,7 @@ loop-piece-smaller c =
 
 pub returns : goal.returns
 returns c =
-    let h = none-handed (reader_of c.loop-piece.reader) (ap (λ (o : Option WitnessPiece). Ok (option_map data_of o)) (sym c.in-default.is) ∙ c.in-ok-piece.ensures.handed) in
+    let h = none-handed (reader_of c.loop-piece.reader) (ap (λ (o : Option WitnessPiece). Ok (option_map data_of o)) (sym c.in_default.is) ∙ c.in_ok-piece.ensures.handed) in
     let e = pieces-all c.loop-piece.reader.bytes.now c.loop-piece.reader.at h in
     let p = subst (λ (ps : List PieceData). Filled place_record_of (witness_at c.args.shape c.args.bytes.now).places (places_of c.args.shape ps) (progress_of c.loop-piece.noted).places c.args.places.now c.loop-piece.places) e c.loop-piece.invariant.1 in
     let i = subst (λ (ps : List PieceData). Filled inner_of (witness_at c.args.shape c.args.bytes.now).inners (inners_of c.args.shape ps) (progress_of c.loop-piece.noted).inners c.args.inners.now c.loop-piece.inners) e c.loop-piece.invariant.2 in
@@ -121,5 +121,5 @@ returns c =
       places = filled-done place_record_of _ c.args.places.now _ _ p;
       places_behind = p.behind-is;
       inners = filled-done inner_of _ c.args.inners.now _ _ i;
-      inners-behind = i.behind-is;
+      inners_behind = i.behind-is;
     }

@@ -19,10 +19,10 @@ returns-in-Listed c =
     record {
       places = ap (map place_record_of) h ∙ map_push place_record_of (held c.args.places.now) c.in-Listed.place ∙ ap (λ (x : RecordData). places_added x (map place_record_of (held c.args.places.now))) e;
       places_behind = b ∙ ap (λ (x : RecordData). drop (place_count x) (behind c.args.places.now)) e;
-      places-room = c.push.ensures.room;
+      places_room = c.push.ensures.room;
       inners = ap (λ (x : RecordData). inners_added x (map inner_of (held c.args.inners.now))) e;
-      inners-behind = ap (λ (x : RecordData). drop (inner_count x) (behind c.args.inners.now)) e;
-      inners-room = refl;
+      inners_behind = ap (λ (x : RecordData). drop (inner_count x) (behind c.args.inners.now)) e;
+      inners_room = refl;
     }
 
 pub returns-in-Declared : goal.returns-in-Declared
@@ -34,8 +34,8 @@ returns-in-Declared c =
     record {
       places = ap (λ (x : RecordData). places_added x (map place_record_of (held c.args.places.now))) e;
       places_behind = ap (λ (x : RecordData). drop (place_count x) (behind c.args.places.now)) e;
-      places-room = refl;
+      places_room = refl;
       inners = ap (map inner_of) h ∙ map_push inner_of (held c.args.inners.now) c.in-Declared.inner ∙ ap (λ (x : RecordData). inners_added x (map inner_of (held c.args.inners.now))) e;
-      inners-behind = b ∙ ap (λ (x : RecordData). drop (inner_count x) (behind c.args.inners.now)) e;
-      inners-room = c.push-in-Declared.ensures.room;
+      inners_behind = b ∙ ap (λ (x : RecordData). drop (inner_count x) (behind c.args.inners.now)) e;
+      inners_room = c.push-in-Declared.ensures.room;
     }

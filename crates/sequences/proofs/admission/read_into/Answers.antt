@@ -15,11 +15,11 @@ use Rattle.sequences.proofs.admission.read_into.Goals.{After-shape}
 
 module _ (c : After-shape) where
   roomy : (leb most_places c.capacity.result ≡ true) × (leb most_inners c.capacity-2.result ≡ true)
-  roomy = and_parts (leb most_places c.capacity.result) (leb most_inners c.capacity-2.result) (check-true _ _ (sym c.in-ok-memory-test.ensures))
+  roomy = and_parts (leb most_places c.capacity.result) (leb most_inners c.capacity-2.result) (check-true _ _ (sym c.in_ok-memory_test.ensures))
 
   passed : Ok tt ≡ pieces_say c.shape.result c.args.bytes.now
   passed =
-      sym (content-pieces (map transition_of (held c.args.table.now)) (shape_of (heading_of c.args.heading.now)) c.args.bytes.now (sym c.in-ok-tested.ensures))
+      sym (content-pieces (map transition_of (held c.args.table.now)) (shape_of (heading_of c.args.heading.now)) c.args.bytes.now (sym c.in_ok-tested.ensures))
       ∙ ap (λ (z : Shape). pieces_say z c.args.bytes.now) (sym c.shape.ensures)
 
 pub fill-requires : goal.fill-requires
@@ -28,10 +28,10 @@ fill-requires c =
     record {
       choices = subst (λ (z : Shape). z.choices ≤ most_choices) (sym c.shape.ensures) c.args.heading.now.limits.1;
       passed = passed d;
-      no-places = c.clear.ensures.held;
-      no-inners = c.clear-2.ensures.held;
-      places-room = subst (λ (n : ℕ). most_places ≤ n) (c.capacity.ensures ∙ sym c.clear.ensures.room) (leb-true most_places c.capacity.result (roomy d).0);
-      inners-room = subst (λ (n : ℕ). most_inners ≤ n) (c.capacity-2.ensures ∙ sym c.clear-2.ensures.room) (leb-true most_inners c.capacity-2.result (roomy d).1);
+      no_places = c.clear.ensures.held;
+      no_inners = c.clear-2.ensures.held;
+      places_room = subst (λ (n : ℕ). most_places ≤ n) (c.capacity.ensures ∙ sym c.clear.ensures.room) (leb-true most_places c.capacity.result (roomy d).0);
+      inners_room = subst (λ (n : ℕ). most_inners ≤ n) (c.capacity-2.ensures ∙ sym c.clear-2.ensures.room) (leb-true most_inners c.capacity-2.result (roomy d).1);
     }
 
 pub returns : goal.returns
@@ -43,10 +43,10 @@ returns c =
     record {
       answer =
           p
-          ∙ goes _ _ _ (c.in-ok-memory-test.ensures ∙ ap (λ (n : ℕ). witness_memory_says n c.capacity-2.result) c.capacity.ensures ∙ ap (witness_memory_says (room c.args.places.now)) c.capacity-2.ensures)
-          c.in-ok-tested.ensures;
+          ∙ goes _ _ _ (c.in_ok-memory_test.ensures ∙ ap (λ (n : ℕ). witness_memory_says n c.capacity-2.result) c.capacity.ensures ∙ ap (witness_memory_says (room c.args.places.now)) c.capacity-2.ensures)
+          c.in_ok-tested.ensures;
       memory = subst (AdmittedInto w c.args.places.now c.fill.new.places c.args.inners.now c.fill.new.inners) (sym p) (
         (c.fill.ensures.places ∙ ap (λ (s : Shape). (witness_at s b).places) z, c.fill.ensures.places_behind ∙ ap (drop (length (held c.fill.new.places))) c.clear.ensures.behind),
-        (c.fill.ensures.inners ∙ ap (λ (s : Shape). (witness_at s b).inners) z, c.fill.ensures.inners-behind ∙ ap (drop (length (held c.fill.new.inners))) c.clear-2.ensures.behind),
+        (c.fill.ensures.inners ∙ ap (λ (s : Shape). (witness_at s b).inners) z, c.fill.ensures.inners_behind ∙ ap (drop (length (held c.fill.new.inners))) c.clear-2.ensures.behind),
       );
     }

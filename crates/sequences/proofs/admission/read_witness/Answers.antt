@@ -13,8 +13,8 @@ returns c =
     let shape = shape_of (heading_of c.args.heading.now) in
     let limits = c.args.heading.now.limits in
     record {
-      answer = c.read-into.ensures.answer;
-      memory = c.read-into.ensures.memory;
-      exactly = witness-exactly transitions shape (record { values = limits.0; choices = limits.1 }) c.args.bytes.now c.bytes-fit.ensures;
-      placed = subst (Placed (length c.args.bytes.now)) (sym c.read-into.ensures.answer) (placed-admit (room c.args.places.now) (room c.args.inners.now) transitions shape c.args.bytes.now);
+      answer = c.read_into.ensures.answer;
+      memory = c.read_into.ensures.memory;
+      exactly = witness-exactly transitions shape (record { values = limits.0; choices = limits.1 }) c.args.bytes.now c.bytes_fit.ensures;
+      placed = subst (Placed (length c.args.bytes.now)) (sym c.read_into.ensures.answer) (placed-admit (room c.args.places.now) (room c.args.inners.now) transitions shape c.args.bytes.now);
     }

@@ -14,6 +14,6 @@ returns c =
     let limits = c.args.heading.now.limits in
     record {
       answer = c.tested.ensures;
-      exactly = witness-exactly transitions shape (record { values = limits.0; choices = limits.1 }) c.args.bytes.now c.bytes-fit.ensures;
+      exactly = witness-exactly transitions shape (record { values = limits.0; choices = limits.1 }) c.args.bytes.now c.bytes_fit.ensures;
       placed = subst (Placed (length c.args.bytes.now)) (sym c.tested.ensures) (placed-witness transitions shape c.args.bytes.now);
     }

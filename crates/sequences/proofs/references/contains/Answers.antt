@@ -4,18 +4,18 @@ use Rattle.records.specs.Bounded.{listed}
 use Rattle.records.proofs.Fronts.{among-step, among_none}
 use Rattle.sequences.proofs.references.contains.Goals as goal
 
-pub returns-then-unwrap-or-number : goal.returns-then-unwrap-or-number
-returns-then-unwrap-or-number g c =
+pub returns-then-unwrap_or-number : goal.returns-then-unwrap_or-number
+returns-then-unwrap_or-number g c =
     let xs = listed c.args.numbers.now in
     let h = subst (λ (n : ℕ). c.loop-i.i < n) c.len-i-end.ensures.value c.loop-i-test.true in
-    sym (among-step c.args.number c.loop-i.i xs c.unwrap-or.result true h (c.unwrap-or.ensures ∙ ap (λ (o : Option ℕ). unwrap_or o 0) c.get.ensures) (eq-eqb _ _ c.if-unwrap-or-number.true))
+    sym (among-step c.args.number c.loop-i.i xs c.unwrap_or.result true h (c.unwrap_or.ensures ∙ ap (λ (o : Option ℕ). unwrap_or o 0) c.get.ensures) (eq-eqb _ _ c.if-unwrap_or-number.true))
     ∙ c.loop-i.invariant
 
 pub loop-i-preserved : goal.loop-i-preserved
 loop-i-preserved g c =
     let xs = listed c.args.numbers.now in
     let h = subst (λ (n : ℕ). c.loop-i.i < n) c.len-i-end.ensures.value c.loop-i-test.true in
-    sym (among-step c.args.number c.loop-i.i xs c.unwrap-or.result false h (c.unwrap-or.ensures ∙ ap (λ (o : Option ℕ). unwrap_or o 0) c.get.ensures) (ne_eqb _ _ c.if-unwrap-or-number.false))
+    sym (among-step c.args.number c.loop-i.i xs c.unwrap_or.result false h (c.unwrap_or.ensures ∙ ap (λ (o : Option ℕ). unwrap_or o 0) c.get.ensures) (ne_eqb _ _ c.if-unwrap_or-number.false))
     ∙ c.loop-i.invariant
 
 pub returns : goal.returns

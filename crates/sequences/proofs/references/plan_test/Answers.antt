@@ -12,20 +12,20 @@ use Rattle.records.specs.Slots.{over_values, stride}
 use Rattle.formats.specs.Witnesses.{Named, named_in, number_from, count_from, rows_from, plan_count_from, plan_from, entries, entry_stride, entry_from, entry_fits, entry_test, place_length, plan_says}
 use Rattle.formats.proofs.PieceTests.{each-stops, each_more}
 use Rattle.sequences.proofs.references.plan_test.Goals as goal
-use Rattle.sequences.proofs.references.plan_test.Goals.{After-word-at-place, After-fault}
+use Rattle.sequences.proofs.references.plan_test.Goals.{After-word_at-place, After-fault}
 
 -- what the code computes before the loop is what the definition says
-module _ (c : After-word-at-place) where
+module _ (c : After-word_at-place) where
   sized : 2 + c.stride-stride.result ≡ entry_stride c.args.shape
-  sized = ap (λ (k : ℕ). 2 + k) (c.stride-stride.ensures ∙ ap stride c.over-values.ensures)
+  sized = ap (λ (k : ℕ). 2 + k) (c.stride-stride.ensures ∙ ap stride c.over_values.ensures)
 
   counts : rows_from + c.stride-stride.result * c.from-rows.result ≡ plan_count_from c.args.shape c.args.piece.rest.now
   counts =
-      ap (λ (k : ℕ). rows_from + k * c.from-rows.result) (c.stride-stride.ensures ∙ ap stride c.over-values.ensures)
-      ∙ ap (λ (k : ℕ). rows_from + stride (over_values c.args.shape) * k) (c.from-rows.ensures ∙ c.byte-at.ensures)
+      ap (λ (k : ℕ). rows_from + k * c.from-rows.result) (c.stride-stride.ensures ∙ ap stride c.over_values.ensures)
+      ∙ ap (λ (k : ℕ). rows_from + stride (over_values c.args.shape) * k) (c.from-rows.ensures ∙ c.byte_at.ensures)
 
   many : c.from-count.result ≡ entries c.args.shape c.args.piece.rest.now
-  many = c.from-count.ensures ∙ c.byte-at-2.ensures ∙ ap (byte_at c.args.piece.rest.now) counts
+  many = c.from-count.ensures ∙ c.byte_at-2.ensures ∙ ap (byte_at c.args.piece.rest.now) counts
 
 -- an entry lies before the plan's end
 entry-located : (offset from size n e : ℕ) → e < n → rest_from offset + (from + size * (n - 1) + 2) < 2 ^ 64 → rest_from offset + (from + size * e) < 2 ^ 64
@@ -33,7 +33,7 @@ entry-located offset from size n e l h = let m = mul-le size e size (n - 1) (ome
 
 pub fault-requires : goal.fault-requires
 fault-requires c =
-    let d = (goal.at.fault-requires c).After-word-at-place in
+    let d = (goal.at.fault-requires c).After-word_at-place in
     let f = ap (λ (k : ℕ). k + 1) (counts d) in
     let p = c.requires in
     let q : rest_from c.args.piece.offset + (rows_from + c.stride-stride.result * c.from-rows.result + 1 + (2 + c.stride-stride.result) * (c.from-count.result - 1) + 2) < 2 ^ 64 =
@@ -41,44 +41,44 @@ fault-requires c =
     entry-located c.args.piece.offset (rows_from + c.stride-stride.result * c.from-rows.result + 1) (2 + c.stride-stride.result) c.from-count.result c.loop-e.e c.loop-e-test.true q
 
 -- the tests of the loop, and those of the definition
-tests : (c : After-word-at-place) → ℕ → Said
-tests c = entry_test (named_in (map transition_of (held c.args.table.now)) (progress_of c.args.noted.now)) c.word-at-place.result c.args.piece.offset c.args.piece.rest.now (rows_from + c.stride-stride.result * c.from-rows.result + 1) (2 + c.stride-stride.result)
+tests : (c : After-word_at-place) → ℕ → Said
+tests c = entry_test (named_in (map transition_of (held c.args.table.now)) (progress_of c.args.noted.now)) c.word_at-place.result c.args.piece.offset c.args.piece.rest.now (rows_from + c.stride-stride.result * c.from-rows.result + 1) (2 + c.stride-stride.result)
 
-plan : (c : After-word-at-place) → each_says (tests c) c.from-count.result ≡ plan_says c.args.shape (named_in (map transition_of (held c.args.table.now)) (progress_of c.args.noted.now)) c.args.piece.offset c.args.piece.rest.now
+plan : (c : After-word_at-place) → each_says (tests c) c.from-count.result ≡ plan_says c.args.shape (named_in (map transition_of (held c.args.table.now)) (progress_of c.args.noted.now)) c.args.piece.offset c.args.piece.rest.now
 unfolding plan_says tests
 plan c =
     let n = named_in (map transition_of (held c.args.table.now)) (progress_of c.args.noted.now) in
     let o = c.args.piece.offset in
     let r = c.args.piece.rest.now in
-    ap (λ (p : ℕ). each_says (entry_test n p o r (rows_from + c.stride-stride.result * c.from-rows.result + 1) (2 + c.stride-stride.result)) c.from-count.result) c.word-at-place.ensures
+    ap (λ (p : ℕ). each_says (entry_test n p o r (rows_from + c.stride-stride.result * c.from-rows.result + 1) (2 + c.stride-stride.result)) c.from-count.result) c.word_at-place.ensures
     ∙ ap (λ (k : ℕ). each_says (entry_test n (word_at r number_from) o r (k + 1) (2 + c.stride-stride.result)) c.from-count.result) (counts c)
     ∙ ap (λ (k : ℕ). each_says (entry_test n (word_at r number_from) o r (plan_from c.args.shape r) k) c.from-count.result) (sized c)
     ∙ ap (each_says (entry_test n (word_at r number_from) o r (plan_from c.args.shape r) (entry_stride c.args.shape))) (many c)
 
-tested : (c : After-fault) → check c.entry-fits-fits.result c.fault.result ≡ entry_test (named_in (map transition_of (held c.args.table.now)) (progress_of c.args.noted.now)) c.word-at-place.result c.args.piece.offset c.args.piece.rest.now (rows_from + c.stride-stride.result * c.from-rows.result + 1) (2 + c.stride-stride.result) c.loop-e.e
+tested : (c : After-fault) → check c.entry_fits-fits.result c.fault.result ≡ entry_test (named_in (map transition_of (held c.args.table.now)) (progress_of c.args.noted.now)) c.word_at-place.result c.args.piece.offset c.args.piece.rest.now (rows_from + c.stride-stride.result * c.from-rows.result + 1) (2 + c.stride-stride.result) c.loop-e.e
 tested c =
     let n = named_in (map transition_of (held c.args.table.now)) (progress_of c.args.noted.now) in
-    ap (λ (b : Bool). check b c.fault.result) (c.entry-fits-fits.ensures ∙ ap (entry_fits n c.word-at-place.result) c.word-at-number.ensures)
-    ∙ ap (check (entry_fits n c.word-at-place.result (word_at c.args.piece.rest.now (rows_from + c.stride-stride.result * c.from-rows.result + 1 + (2 + c.stride-stride.result) * c.loop-e.e)))) c.fault.ensures
+    ap (λ (b : Bool). check b c.fault.result) (c.entry_fits-fits.ensures ∙ ap (entry_fits n c.word_at-place.result) c.word_at-number.ensures)
+    ∙ ap (check (entry_fits n c.word_at-place.result (word_at c.args.piece.rest.now (rows_from + c.stride-stride.result * c.from-rows.result + 1 + (2 + c.stride-stride.result) * c.loop-e.e)))) c.fault.ensures
 
-pub returns-in-err-require : goal.returns-in-err-require
+pub returns-in_err-require : goal.returns-in_err-require
 unfolding tests
-returns-in-err-require c =
-    let p = err_from_is_err_and c.from-residual.result c.from-residual.ensures.1 in
-    let d = (goal.at.returns-in-err-require c).After-word-at-place in
-    let t = tested (goal.at.returns-in-err-require c).After-fault in
-    rw (p.1, p.2) (each-stops (tests d) c.from-count.result c.loop-e.e _ c.loop-e-test.true c.loop-e.invariant (c.in-err-require.ensures ∙ t) ∙ plan d)
+returns-in_err-require c =
+    let p = err_from_is_err_and c.from_residual.result c.from_residual.ensures.1 in
+    let d = (goal.at.returns-in_err-require c).After-word_at-place in
+    let t = tested (goal.at.returns-in_err-require c).After-fault in
+    rw (p.1, p.2) (each-stops (tests d) c.from-count.result c.loop-e.e _ c.loop-e-test.true c.loop-e.invariant (c.in_err-require.ensures ∙ t) ∙ plan d)
 
 pub loop-e-preserved : goal.loop-e-preserved
 unfolding tests
 loop-e-preserved c =
-    let d = (goal.at.loop-e-preserved c).After-word-at-place in
+    let d = (goal.at.loop-e-preserved c).After-word_at-place in
     let t = tested (goal.at.loop-e-preserved c).After-fault in
-    each_more (tests d) c.loop-e.e c.loop-e.invariant (c.in-ok-require.ensures ∙ t)
+    each_more (tests d) c.loop-e.e c.loop-e.invariant (c.in_ok-require.ensures ∙ t)
 
 pub returns : goal.returns
 unfolding tests
 returns c =
-    let d = (goal.at.returns c).After-word-at-place in
+    let d = (goal.at.returns c).After-word_at-place in
     let e : c.loop-e.e ≡ c.from-count.result = omega arith in
     c.loop-e.invariant ∙ ap (each_says (tests d)) e ∙ plan d

@@ -7,4 +7,4 @@ use Rattle.formats.specs.Witnesses.{named_in, entry_test}
 use Rattle.sequences.proofs.references.plan_test.Given as goal
 
 abbrev pub invariant-loop-e : goal.invariant-loop-e
-invariant-loop-e l = Ok tt ≡ each_says (entry_test (named_in (map transition_of (held l.table)) (progress_of l.noted)) l.place l.piece.offset l.piece.rest.now (l.plan-count-from + 1) (2 + l.stride)) l.e
+invariant-loop-e l = Ok tt ≡ each_says (entry_test (named_in (map transition_of (held l.table)) (progress_of l.noted)) l.place l.piece.offset l.piece.rest.now (l.plan_count_from + 1) (2 + l.stride)) l.e

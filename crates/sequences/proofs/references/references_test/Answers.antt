@@ -22,7 +22,7 @@ module _ (c : In-Some) where
   handed : Given (reader_of c.loop-piece.reader) (data_of c.in-Some.piece)
   handed =
       some-handed (reader_of c.loop-piece.reader) (data_of c.in-Some.piece)
-      (ap (λ (o : Option WitnessPiece). Ok (option_map data_of o)) (sym c.in-Some.is) ∙ c.in-ok-piece.ensures.handed)
+      (ap (λ (o : Option WitnessPiece). Ok (option_map data_of o)) (sym c.in-Some.is) ∙ c.in_ok-piece.ensures.handed)
 
   short : length c.loop-piece.reader.bytes.now < 2 ^ 64
   short =
@@ -32,23 +32,23 @@ module _ (c : In-Some) where
   passes : Ok tt ≡ body_by c.args.shape c.loop-piece.invariant.0.0 (data_of c.in-Some.piece)
   passes = walking-passes c.args.shape c.args.bytes.now (reader_of c.loop-piece.reader) c.loop-piece.invariant.0.0 c.loop-piece.invariant.0.1 (data_of c.in-Some.piece) handed c.requires
 
-pub returns-in-err-piece : goal.returns-in-err-piece
-returns-in-err-piece c =
-    let h = fault-handed (reader_of c.loop-piece.reader) _ c.in-err-piece.ensures.handed in
+pub returns-in_err-piece : goal.returns-in_err-piece
+returns-in_err-piece c =
+    let h = fault-handed (reader_of c.loop-piece.reader) _ c.in_err-piece.ensures.handed in
     never _ (walking-lost c.args.shape c.args.bytes.now (reader_of c.loop-piece.reader) c.loop-piece.invariant.0.0 c.loop-piece.invariant.0.1 _ h.0 h.1 ∙ sym c.requires)
 
-pub reference-test-requires : goal.reference-test-requires
-reference-test-requires c =
-    let d = (goal.at.reference-test-requires c).In-Some in
+pub reference_test-requires : goal.reference_test-requires
+reference_test-requires c =
+    let d = (goal.at.reference_test-requires c).In-Some in
     passed-reached c.args.shape c.loop-piece.invariant.0.0 (reader_of c.loop-piece.reader) (data_of c.in-Some.piece) (handed d) (short d) (passes d)
 
-pub returns-in-err-reference-test : goal.returns-in-err-reference-test
-returns-in-err-reference-test c =
-    let p = err_from_is_err_and c.from-residual-in-err-reference-test.result c.from-residual-in-err-reference-test.ensures.1 in
-    let d = (goal.at.returns-in-err-reference-test c).In-Some in
+pub returns-in_err-reference_test : goal.returns-in_err-reference_test
+returns-in_err-reference_test c =
+    let p = err_from_is_err_and c.from_residual-in_err-reference_test.result c.from_residual-in_err-reference_test.ensures.1 in
+    let d = (goal.at.returns-in_err-reference_test c).In-Some in
     let n = named_in (map transition_of (held c.args.table.now)) (progress_of c.args.noted.now) in
     rw (p.1, p.2)
-    (stops _ _ _ c.in-err-reference-test.ensures
+    (stops _ _ _ c.in_err-reference_test.ensures
     ∙ sym (next-references c.args.shape c.args.bytes.now (reader_of c.loop-piece.reader) c.loop-piece.invariant.0.0 c.loop-piece.invariant.0.1 (data_of c.in-Some.piece) (handed d) n)
     ∙ c.loop-piece.invariant.1)
 
@@ -60,7 +60,7 @@ loop-piece-preserved c =
     let w = walking-more c.args.shape c.args.bytes.now r c.loop-piece.invariant.0.0 c.loop-piece.invariant.0.1 (data_of c.in-Some.piece) (handed d) (passes d) in (
       (further_by c.loop-piece.invariant.0.0 (data_of c.in-Some.piece), subst (λ (q : ReaderData). Walking c.args.shape c.args.bytes.now q (further_by c.loop-piece.invariant.0.0 (data_of c.in-Some.piece))) (sym c.next.ensures.stands) w),
       ap (λ (q : ReaderData). references_say c.args.shape n (ahead q)) c.next.ensures.stands
-          ∙ goes _ _ _ c.in-ok-reference-test.ensures refl
+          ∙ goes _ _ _ c.in_ok-reference_test.ensures refl
           ∙ sym (next-references c.args.shape c.args.bytes.now r c.loop-piece.invariant.0.0 c.loop-piece.invariant.0.1 (data_of c.in-Some.piece) (handed d) n)
           ∙ c.loop-piece.invariant.1,
     )
@@ -73,5 +73,5 @@ loop-piece-smaller c =
 pub returns : goal.returns
 returns c =
     let n = named_in (map transition_of (held c.args.table.now)) (progress_of c.args.noted.now) in
-    let h = none-handed (reader_of c.loop-piece.reader) (ap (λ (o : Option WitnessPiece). Ok (option_map data_of o)) (sym c.in-default.is) ∙ c.in-ok-piece.ensures.handed) in
+    let h = none-handed (reader_of c.loop-piece.reader) (ap (λ (o : Option WitnessPiece). Ok (option_map data_of o)) (sym c.in_default.is) ∙ c.in_ok-piece.ensures.handed) in
     ap (references_say c.args.shape n) (sym (pieces-all c.loop-piece.reader.bytes.now c.loop-piece.reader.at h)) ∙ c.loop-piece.invariant.1

@@ -9,11 +9,11 @@ returns-in-None c = item-none c.args.shape c.args.bytes.now c.args.at c.args.ite
 
 pub returns-in-Some : goal.returns-in-Some
 returns-in-Some c =
-    let f : SFits w64 c.number-at.result = search rules in
+    let f : SFits w64 c.number_at.result = search rules in
     let s : length c.args.bytes.now < 2 ^ 64 = search rules in
     to_z-of_z w64 _ f
-    ∙ c.number-at.ensures
-    ∙ ap (number_at c.args.bytes.now) c.saturating-add.ensures
+    ∙ c.number_at.ensures
+    ∙ ap (number_at c.args.bytes.now) c.saturating_add.ensures
     ∙ number-capped c.args.bytes.now c.args.at _ s
     ∙ ap (λ (k : ℕ). number_at c.args.bytes.now (c.args.at + 4 * k)) c.from.ensures
     ∙ item-some c.args.shape c.args.bytes.now c.args.at c.args.item c.in-Some.slot c.in-Some.ensures

@@ -10,8 +10,8 @@ use Rattle.sequences.proofs.stored.numbers_at.Goals as goal
 
 pub loop-column-preserved : goal.loop-column-preserved
 loop-column-preserved c =
-    let f : SFits w64 c.item-at.result = search rules in
-    let v = to_z-of_z w64 _ f ∙ c.item-at.ensures in
+    let f : SFits w64 c.item_at.result = search rules in
+    let v = to_z-of_z w64 _ f ∙ c.item_at.ensures in
     let l : c.loop-column.column < length c.loop-column.coefficients = omega (arith, c.loop-column.invariant.0) in (
       length-set _ _ _ ∙ c.loop-column.invariant.0,
       λ k h. ap (λ (z : ℤ). get_or (set c.loop-column.coefficients c.loop-column.column z) k (pos 0)) v
@@ -20,7 +20,7 @@ loop-column-preserved c =
 
 pub returns : goal.returns
 returns c =
-    let f : SFits w64 c.item-at-bound.result = search rules in
+    let f : SFits w64 c.item_at-bound.result = search rules in
     same_numbers _ _ _ _
     (fill_by_all (item_at c.args.shape c.args.bytes.now c.args.at) c.loop-column.coefficients columns (pos 0) c.loop-column.invariant.0 (λ k h. c.loop-column.invariant.1 k (omega arith)))
-    (to_z-of_z w64 _ f ∙ c.item-at-bound.ensures)
+    (to_z-of_z w64 _ f ∙ c.item_at-bound.ensures)

@@ -13,55 +13,55 @@ use Rattle.formats.proofs.PieceTests.{given, given-fault, given-ok, given-err}
 use Rattle.sequences.proofs.table.content_test.Goals as goal
 use Rattle.sequences.proofs.table.content_test.Goals.{After-shape}
 
-pub returns-in-err-piece : goal.returns-in-err-piece
+pub returns-in_err-piece : goal.returns-in_err-piece
 unfolding content_says
-returns-in-err-piece c =
-    let p = err_from_is_err_and c.from-residual.result c.from-residual.ensures.1 in
-    rw (p.1, p.2) (given-fault _ _ _ (stops _ _ _ c.in-err-piece.ensures))
+returns-in_err-piece c =
+    let p = err_from_is_err_and c.from_residual.result c.from_residual.ensures.1 in
+    rw (p.1, p.2) (given-fault _ _ _ (stops _ _ _ c.in_err-piece.ensures))
 
-pub returns-in-err-heading : goal.returns-in-err-heading
+pub returns-in_err-heading : goal.returns-in_err-heading
 unfolding content_says
-returns-in-err-heading c =
-    let p = err_from_is_err_and c.from-residual-in-err-heading.result c.from-residual-in-err-heading.ensures.1 in
-    let i = c.in-ok-piece.ensures in
-    let h = given-err _ _ _ c.in-err-heading.ensures ∙ ap (λ (o : ℕ). heading_says o c.in-ok-piece.piece.rest.now) i.1.offset ∙ ap (heading_says pieces_from) i.1.rest in
+returns-in_err-heading c =
+    let p = err_from_is_err_and c.from_residual-in_err-heading.result c.from_residual-in_err-heading.ensures.1 in
+    let i = c.in_ok-piece.ensures in
+    let h = given-err _ _ _ c.in_err-heading.ensures ∙ ap (λ (o : ℕ). heading_says o c.in_ok-piece.piece.rest.now) i.1.offset ∙ ap (heading_says pieces_from) i.1.rest in
     rw (p.1, p.2) (given-fault _ _ _ (goes _ _ _ i.0 (stops _ _ _ h)))
 
 -- the heading that was read, and its shape
 module _ (c : After-shape) where
   tested : Ok tt ≡ heading_says pieces_from (heading_rest c.args.bytes.now)
   tested =
-      let i = c.in-ok-piece.ensures in
-      (given-ok _ _ _ c.in-ok-heading.ensures).0 ∙ ap (λ (o : ℕ). heading_says o c.in-ok-piece.piece.rest.now) i.1.offset ∙ ap (heading_says pieces_from) i.1.rest
+      let i = c.in_ok-piece.ensures in
+      (given-ok _ _ _ c.in_ok-heading.ensures).0 ∙ ap (λ (o : ℕ). heading_says o c.in_ok-piece.piece.rest.now) i.1.offset ∙ ap (heading_says pieces_from) i.1.rest
 
-  read : heading_of c.in-ok-heading.heading ≡ heading_at (heading_rest c.args.bytes.now)
-  read = (given-ok _ _ _ c.in-ok-heading.ensures).1 ∙ ap heading_at c.in-ok-piece.ensures.1.rest
+  read : heading_of c.in_ok-heading.heading ≡ heading_at (heading_rest c.args.bytes.now)
+  read = (given-ok _ _ _ c.in_ok-heading.ensures).1 ∙ ap heading_at c.in_ok-piece.ensures.1.rest
 
   shaped : c.shape.result ≡ heading_shape (heading_rest c.args.bytes.now)
   shaped = c.shape.ensures ∙ ap shape_of read
 
-pub transitions-test-requires : goal.transitions-test-requires
-transitions-test-requires c =
+pub transitions_test-requires : goal.transitions_test-requires
+transitions_test-requires c =
     record {
-      within = subst (λ (n : ℕ). n ≤ length c.args.bytes.now) (sym c.transitions-from.ensures) c.in-ok-piece.ensures.1.ends;
+      within = subst (λ (n : ℕ). n ≤ length c.args.bytes.now) (sym c.transitions_from.ensures) c.in_ok-piece.ensures.1.ends;
       values = subst (λ (z : Shape). z.values ≤ most_values) (sym (shaped c)) (heading-values pieces_from (heading_rest c.args.bytes.now) (sym (tested c))).1;
     }
 
 -- the test of the transitions, in the words of the definition
-tests : (c : After-shape) → transitions_say c.shape.result c.args.bytes.now most_transitions 0 c.transitions-from.result ≡ transitions_say (heading_shape (heading_rest c.args.bytes.now)) c.args.bytes.now most_transitions 0 (piece_end c.args.bytes.now pieces_from)
+tests : (c : After-shape) → transitions_say c.shape.result c.args.bytes.now most_transitions 0 c.transitions_from.result ≡ transitions_say (heading_shape (heading_rest c.args.bytes.now)) c.args.bytes.now most_transitions 0 (piece_end c.args.bytes.now pieces_from)
 tests c =
-    ap (λ (z : Shape). transitions_say z c.args.bytes.now most_transitions 0 c.transitions-from.result) (shaped c)
-    ∙ ap (transitions_say (heading_shape (heading_rest c.args.bytes.now)) c.args.bytes.now most_transitions 0) c.transitions-from.ensures
+    ap (λ (z : Shape). transitions_say z c.args.bytes.now most_transitions 0 c.transitions_from.result) (shaped c)
+    ∙ ap (transitions_say (heading_shape (heading_rest c.args.bytes.now)) c.args.bytes.now most_transitions 0) c.transitions_from.ensures
 
-pub returns-in-err-transitions-test : goal.returns-in-err-transitions-test
+pub returns-in_err-transitions_test : goal.returns-in_err-transitions_test
 unfolding content_says
-returns-in-err-transitions-test c =
-    let p = err_from_is_err_and c.from-residual-in-err-transitions-test.result c.from-residual-in-err-transitions-test.ensures.1 in
-    let d = (goal.at.returns-in-err-transitions-test c).After-shape in
-    rw (p.1, p.2) (given-fault _ _ _ (goes _ _ _ c.in-ok-piece.ensures.0 (goes _ _ _ (tested d) (c.in-err-transitions-test.ensures ∙ tests d))))
+returns-in_err-transitions_test c =
+    let p = err_from_is_err_and c.from_residual-in_err-transitions_test.result c.from_residual-in_err-transitions_test.ensures.1 in
+    let d = (goal.at.returns-in_err-transitions_test c).After-shape in
+    rw (p.1, p.2) (given-fault _ _ _ (goes _ _ _ c.in_ok-piece.ensures.0 (goes _ _ _ (tested d) (c.in_err-transitions_test.ensures ∙ tests d))))
 
 pub returns : goal.returns
 unfolding content_says table_at
 returns c =
     let d = (goal.at.returns c).After-shape in
-    given _ _ _ (goes _ _ _ c.in-ok-piece.ensures.0 (goes _ _ _ (tested d) (c.in-ok-transitions-test.ensures ∙ tests d))) (read d)
+    given _ _ _ (goes _ _ _ c.in_ok-piece.ensures.0 (goes _ _ _ (tested d) (c.in_ok-transitions_test.ensures ∙ tests d))) (read d)

@@ -26,20 +26,20 @@ loop-at-init c =
       refl,
     )
 
-pub returns-in-err-transition : goal.returns-in-err-transition
-returns-in-err-transition c =
-    never _ (say-fault c.args.shape c.args.bytes.now c.loop-at.room c.loop-at.last c.loop-at.at _ c.loop-at-test.true (given-err _ _ _ c.in-err-transition.ensures) ∙ sym c.loop-at.invariant.1)
+pub returns-in_err-transition : goal.returns-in_err-transition
+returns-in_err-transition c =
+    never _ (say-fault c.args.shape c.args.bytes.now c.loop-at.room c.loop-at.last c.loop-at.at _ c.loop-at-test.true (given-err _ _ _ c.in_err-transition.ensures) ∙ sym c.loop-at.invariant.1)
 
 -- what a turn reads and puts
 module _ (c : goal.After-push) where
   said : Ok tt ≡ next_says c.args.shape c.args.bytes.now c.loop-at.room c.loop-at.last c.loop-at.at
-  said = (given-ok _ _ _ c.in-ok-transition.ensures).0
+  said = (given-ok _ _ _ c.in_ok-transition.ensures).0
 
-  read : transition_of c.in-ok-transition.transition ≡ transition_at c.args.shape (piece_at c.args.bytes.now c.loop-at.at)
-  read = ap (λ (x : TransitionData × ℕ). x.0) (given-ok _ _ _ c.in-ok-transition.ensures).1
+  read : transition_of c.in_ok-transition.transition ≡ transition_at c.args.shape (piece_at c.args.bytes.now c.loop-at.at)
+  read = ap (λ (x : TransitionData × ℕ). x.0) (given-ok _ _ _ c.in_ok-transition.ensures).1
 
-  end : c.in-ok-transition.end ≡ piece_end c.args.bytes.now c.loop-at.at
-  end = ap (λ (x : TransitionData × ℕ). x.1) (given-ok _ _ _ c.in-ok-transition.ensures).1
+  end : c.in_ok-transition.end ≡ piece_end c.args.bytes.now c.loop-at.at
+  end = ap (λ (x : TransitionData × ℕ). x.1) (given-ok _ _ _ c.in_ok-transition.ensures).1
 
   ends : piece_end c.args.bytes.now c.loop-at.at ≤ length c.args.bytes.now
   ends = next-ends c.args.shape c.args.bytes.now c.loop-at.room c.loop-at.last c.loop-at.at said
@@ -50,17 +50,17 @@ module _ (c : goal.After-push) where
   fits : length (held c.loop-at.register) < room c.loop-at.register
   fits = let r = some-room in let p = c.requires.room in let i = c.loop-at.invariant in omega (arith, r, p, i.3, i.5)
 
-  now-held : held c.push.new.self ≡ held c.loop-at.register ++ c.in-ok-transition.transition ∷ []
+  now-held : held c.push.new.self ≡ held c.loop-at.register ++ c.in_ok-transition.transition ∷ []
   now-held = took-held _ _ _ _ _ _ c.push.ensures.took fits c.push.ensures.held
 
   now-behind : behind c.push.new.self ≡ drop 1 (behind c.loop-at.register)
   now-behind = took-held _ _ _ _ _ _ c.push.ensures.took fits c.push.ensures.behind
 
   one_more : length (held c.push.new.self) ≡ length (held c.loop-at.register) + 1
-  one_more = ap length now-held ∙ length_push (held c.loop-at.register) c.in-ok-transition.transition
+  one_more = ap length now-held ∙ length_push (held c.loop-at.register) c.in_ok-transition.transition
 
-pub overflow-sub-room : goal.overflow-sub-room
-overflow-sub-room c = some-room c
+pub overflow_sub-room : goal.overflow_sub-room
+overflow_sub-room c = some-room c
 
 pub loop-at-smaller : goal.loop-at-smaller
 loop-at-smaller c = omega (arith, end c, ends c)
@@ -71,7 +71,7 @@ loop-at-preserved c =
     let bytes = c.args.bytes.now in
     let at = c.loop-at.at in
     let left = c.loop-at.room - 1 in
-    let x = c.in-ok-transition.transition in
+    let x = c.in_ok-transition.transition in
     let n = ap (λ (t : TransitionData). t.number) (read c) in
     let e = end c in (
       omega (arith, end c, ends c),
@@ -79,9 +79,9 @@ loop-at-preserved c =
           ∙ sym (say-more shape bytes c.loop-at.room c.loop-at.last at c.loop-at-test.true (said c))
           ∙ ap (λ (k : ℕ). transitions_say shape bytes left k (piece_end bytes at)) (sym n)
           ∙ ap (transitions_say shape bytes left x.number) (sym e),
-      ap (λ (ts : List Transition). map transition_of ts ++ transitions_at shape bytes left c.in-ok-transition.end) (now-held c)
-          ∙ ap (λ (ts : List TransitionData). ts ++ transitions_at shape bytes left c.in-ok-transition.end) (map_push transition_of (held c.loop-at.register) x)
-          ∙ append_assoc (map transition_of (held c.loop-at.register)) (transition_of x ∷ []) (transitions_at shape bytes left c.in-ok-transition.end)
+      ap (λ (ts : List Transition). map transition_of ts ++ transitions_at shape bytes left c.in_ok-transition.end) (now-held c)
+          ∙ ap (λ (ts : List TransitionData). ts ++ transitions_at shape bytes left c.in_ok-transition.end) (map_push transition_of (held c.loop-at.register) x)
+          ∙ append_assoc (map transition_of (held c.loop-at.register)) (transition_of x ∷ []) (transitions_at shape bytes left c.in_ok-transition.end)
           ∙ ap (λ (k : ℕ). map transition_of (held c.loop-at.register) ++ transition_of x ∷ transitions_at shape bytes left k) e
           ∙ ap (λ (t : TransitionData). map transition_of (held c.loop-at.register) ++ t ∷ transitions_at shape bytes left (piece_end bytes at)) (read c)
           ∙ ap (λ (ts : List TransitionData). map transition_of (held c.loop-at.register) ++ ts) (sym (at_more shape bytes c.loop-at.room at c.loop-at-test.true (some-room c)))

@@ -17,18 +17,18 @@ use Rattle.sequences.proofs.table.read_into.Goals.{After-shape}
 -- the bytes have passed, and what the code takes from them
 module _ (c : After-shape) where
   passed : Ok tt ≡ content_says c.args.bytes.now
-  passed = (given-ok _ _ _ c.in-ok-heading.ensures).0
+  passed = (given-ok _ _ _ c.in_ok-heading.ensures).0
 
   parts : Parts c.args.bytes.now
   parts = content-parts c.args.bytes.now (sym passed)
 
   shaped : c.shape.result ≡ heading_shape (heading_rest c.args.bytes.now)
   unfolding table_at
-  shaped = c.shape.ensures ∙ ap shape_of (given-ok _ _ _ c.in-ok-heading.ensures).1
+  shaped = c.shape.ensures ∙ ap shape_of (given-ok _ _ _ c.in_ok-heading.ensures).1
 
   roomy : most_transitions ≤ room c.args.transitions.now
   roomy =
-      let m = c.in-ok-memory-test.ensures in
+      let m = c.in_ok-memory_test.ensures in
       subst (λ (n : ℕ). most_transitions ≤ n) c.capacity.ensures
       (leb-true _ _ (and_parts (leb most_transitions c.capacity.result) (leb most_places c.args.places && leb most_inners c.args.inners) (check-true _ _ (sym m))).0)
 
@@ -36,12 +36,12 @@ pub fill-requires : goal.fill-requires
 fill-requires c =
     let d = (goal.at.fill-requires c).After-shape in
     record {
-      within = subst (λ (n : ℕ). n ≤ length c.args.bytes.now) (sym c.transitions-from.ensures) (parts d).ends;
+      within = subst (λ (n : ℕ). n ≤ length c.args.bytes.now) (sym c.transitions_from.ensures) (parts d).ends;
       values = subst (λ (z : Shape). z.values ≤ most_values) (sym (shaped d)) (heading-values pieces_from (heading_rest c.args.bytes.now) (parts d).heading).1;
       passed =
           sym (parts d).transitions
           ∙ ap (λ (z : Shape). transitions_say z c.args.bytes.now most_transitions 0 (piece_end c.args.bytes.now pieces_from)) (sym (shaped d))
-          ∙ ap (transitions_say c.shape.result c.args.bytes.now most_transitions 0) (sym c.transitions-from.ensures);
+          ∙ ap (transitions_say c.shape.result c.args.bytes.now most_transitions 0) (sym c.transitions_from.ensures);
       empty = c.clear.ensures.held;
       room = subst (λ (n : ℕ). most_transitions ≤ n) (sym c.clear.ensures.room) (roomy d);
     }
@@ -51,11 +51,11 @@ unfolding table_at
 returns c =
     let d = (goal.at.returns c).After-shape in
     record {
-      answer = given _ _ _ (goes _ _ _ c.in-ok-version-test.ensures (goes _ _ _ (c.in-ok-memory-test.ensures ∙ ap (λ (n : ℕ). memory_says n c.args.places c.args.inners) c.capacity.ensures) (passed d))) (given-ok _ _ _ c.in-ok-heading.ensures).1;
+      answer = given _ _ _ (goes _ _ _ c.in_ok-version_test.ensures (goes _ _ _ (c.in_ok-memory_test.ensures ∙ ap (λ (n : ℕ). memory_says n c.args.places c.args.inners) c.capacity.ensures) (passed d))) (given-ok _ _ _ c.in_ok-heading.ensures).1;
       memory = (
         c.fill.ensures.held
-            ∙ ap (λ (z : Shape). transitions_at z c.args.bytes.now most_transitions c.transitions-from.result) (shaped d)
-            ∙ ap (transitions_at (heading_shape (heading_rest c.args.bytes.now)) c.args.bytes.now most_transitions) c.transitions-from.ensures,
+            ∙ ap (λ (z : Shape). transitions_at z c.args.bytes.now most_transitions c.transitions_from.result) (shaped d)
+            ∙ ap (transitions_at (heading_shape (heading_rest c.args.bytes.now)) c.args.bytes.now most_transitions) c.transitions_from.ensures,
         c.fill.ensures.behind ∙ ap (drop (length (held c.fill.new.register))) c.clear.ensures.behind,
       );
     }

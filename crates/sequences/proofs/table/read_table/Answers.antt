@@ -7,8 +7,8 @@ use Rattle.sequences.proofs.table.read_table.Goals as goal
 
 pub returns : goal.returns
 returns c = record {
-  answer = c.read-into.ensures.answer;
-  memory = c.read-into.ensures.memory;
-  exactly = table-exactly c.args.bytes.now c.bytes-fit.ensures;
+  answer = c.read_into.ensures.answer;
+  memory = c.read_into.ensures.memory;
+  exactly = table-exactly c.args.bytes.now c.bytes_fit.ensures;
   placed = placed-open (room c.args.transitions.now) c.args.places c.args.inners c.args.bytes.now;
 }

@@ -5,4 +5,4 @@ use Rattle.formats.proofs.TablesWritten.{table-exactly}
 use Rattle.sequences.proofs.table.test_table.Goals as goal
 
 pub returns : goal.returns
-returns c = record { answer = search rules; exactly = table-exactly c.args.bytes.now c.bytes-fit.ensures; placed = placed-table c.args.bytes.now }
+returns c = record { answer = search rules; exactly = table-exactly c.args.bytes.now c.bytes_fit.ensures; placed = placed-table c.args.bytes.now }

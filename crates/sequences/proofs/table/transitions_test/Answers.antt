@@ -8,15 +8,15 @@ use Rattle.formats.proofs.PieceTests.{given-ok, given-err}
 use Rattle.formats.proofs.TransitionSteps.{next-room, next-ends, say-fault, say-more, say-all}
 use Rattle.sequences.proofs.table.transitions_test.Goals as goal
 
-pub overflow-sub-room : goal.overflow-sub-room
-overflow-sub-room c =
-    let r = next-room c.args.shape c.args.bytes.now c.loop-at.room c.loop-at.last c.loop-at.at (given-ok _ _ _ c.in-ok-transition.ensures).0 in
+pub overflow_sub-room : goal.overflow_sub-room
+overflow_sub-room c =
+    let r = next-room c.args.shape c.args.bytes.now c.loop-at.room c.loop-at.last c.loop-at.at (given-ok _ _ _ c.in_ok-transition.ensures).0 in
     omega arith
 
 -- where the next piece begins
-ends : (c : goal.After-transition·1) → (c.in-ok-transition.end ≡ piece_end c.args.bytes.now c.loop-at.at) × (piece_end c.args.bytes.now c.loop-at.at ≤ length c.args.bytes.now)
+ends : (c : goal.After-transition-1) → (c.in_ok-transition.end ≡ piece_end c.args.bytes.now c.loop-at.at) × (piece_end c.args.bytes.now c.loop-at.at ≤ length c.args.bytes.now)
 ends c =
-    let o = given-ok _ _ _ c.in-ok-transition.ensures in (
+    let o = given-ok _ _ _ c.in_ok-transition.ensures in (
       ap (λ (x : TransitionData × ℕ). x.1) o.1,
       next-ends c.args.shape c.args.bytes.now c.loop-at.room c.loop-at.last c.loop-at.at o.0,
     )
@@ -26,18 +26,18 @@ loop-at-smaller c =
     let e = ends c in
     omega (arith, e.0, e.1)
 
-pub returns-in-err-transition : goal.returns-in-err-transition
-returns-in-err-transition c =
-    let p = err_from_is_err_and c.from-residual.result c.from-residual.ensures.1 in
-    rw (p.1, p.2) (say-fault c.args.shape c.args.bytes.now c.loop-at.room c.loop-at.last c.loop-at.at _ c.loop-at-test.true (given-err _ _ _ c.in-err-transition.ensures) ∙ c.loop-at.invariant.1)
+pub returns-in_err-transition : goal.returns-in_err-transition
+returns-in_err-transition c =
+    let p = err_from_is_err_and c.from_residual.result c.from_residual.ensures.1 in
+    rw (p.1, p.2) (say-fault c.args.shape c.args.bytes.now c.loop-at.room c.loop-at.last c.loop-at.at _ c.loop-at-test.true (given-err _ _ _ c.in_err-transition.ensures) ∙ c.loop-at.invariant.1)
 
 pub loop-at-preserved : goal.loop-at-preserved
 loop-at-preserved c =
-    let o = given-ok _ _ _ c.in-ok-transition.ensures in
+    let o = given-ok _ _ _ c.in_ok-transition.ensures in
     let e = ends c in
     let n = ap (λ (x : TransitionData × ℕ). x.0.number) o.1 in (
       omega (arith, e.0, e.1),
-      ap (λ (k : ℕ). transitions_say c.args.shape c.args.bytes.now (c.loop-at.room - 1) k c.in-ok-transition.end) n
+      ap (λ (k : ℕ). transitions_say c.args.shape c.args.bytes.now (c.loop-at.room - 1) k c.in_ok-transition.end) n
           ∙ ap (transitions_say c.args.shape c.args.bytes.now (c.loop-at.room - 1) (word_at (piece_at c.args.bytes.now c.loop-at.at) number_from)) e.0
           ∙ say-more c.args.shape c.args.bytes.now c.loop-at.room c.loop-at.last c.loop-at.at c.loop-at-test.true o.0
           ∙ c.loop-at.invariant.1,

@@ -7,28 +7,28 @@ use Rattle.formats.specs.Witnesses.{PlacePart, InnerPart, is_place, kind_says}
 use Rattle.formats.proofs.PieceTests.{given, given-fault, given-ok, given-err}
 use Rattle.sequences.proofs.witness.kind_of.Goals as goal
 
-pub returns-in-err-reaches : goal.returns-in-err-reaches
+pub returns-in_err-reaches : goal.returns-in_err-reaches
 unfolding kind_says
-returns-in-err-reaches c =
-    let p = err_from_is_err_and c.from-residual.result c.from-residual.ensures.1 in
-    rw (p.1, p.2) (given-fault _ _ _ (stops _ _ _ c.in-err-reaches.ensures))
+returns-in_err-reaches c =
+    let p = err_from_is_err_and c.from_residual.result c.from_residual.ensures.1 in
+    rw (p.1, p.2) (given-fault _ _ _ (stops _ _ _ c.in_err-reaches.ensures))
 
-pub returns-in-err-kind : goal.returns-in-err-kind
+pub returns-in_err-kind : goal.returns-in_err-kind
 unfolding kind_says
-returns-in-err-kind c =
-    let p = err_from_is_err_and c.from-residual-in-err-kind.result c.from-residual-in-err-kind.ensures.1 in
-    rw (p.1, p.2) (given-fault _ _ _ (goes _ _ _ c.in-ok-reaches.ensures (given-err _ _ _ c.in-err-kind.ensures)))
+returns-in_err-kind c =
+    let p = err_from_is_err_and c.from_residual-in_err-kind.result c.from_residual-in_err-kind.ensures.1 in
+    rw (p.1, p.2) (given-fault _ _ _ (goes _ _ _ c.in_ok-reaches.ensures (given-err _ _ _ c.in_err-kind.ensures)))
 
-pub returns-then-from-eq-PLACE-KIND : goal.returns-then-from-eq-PLACE-KIND
+pub returns-then-from-eq-PLACE_KIND : goal.returns-then-from-eq-PLACE_KIND
 unfolding kind_says
-returns-then-from-eq-PLACE-KIND c =
-    let o = given-ok _ _ _ c.in-ok-kind.ensures in
-    let e = eq-eqb _ _ (sym (c.from.ensures ∙ o.1) ∙ c.if-from-eq-PLACE-KIND.true) in
-    given _ _ _ (goes _ _ _ c.in-ok-reaches.ensures o.0) (sym (cond-true (is_place (piece_of c.args.piece)) (PlacePart (piece_of c.args.piece)) (InnerPart (piece_of c.args.piece)) e))
+returns-then-from-eq-PLACE_KIND c =
+    let o = given-ok _ _ _ c.in_ok-kind.ensures in
+    let e = eq-eqb _ _ (sym (c.from.ensures ∙ o.1) ∙ c.if-from-eq-PLACE_KIND.true) in
+    given _ _ _ (goes _ _ _ c.in_ok-reaches.ensures o.0) (sym (cond-true (is_place (piece_of c.args.piece)) (PlacePart (piece_of c.args.piece)) (InnerPart (piece_of c.args.piece)) e))
 
-pub returns-else-from-eq-PLACE-KIND : goal.returns-else-from-eq-PLACE-KIND
+pub returns-else-from-eq-PLACE_KIND : goal.returns-else-from-eq-PLACE_KIND
 unfolding kind_says
-returns-else-from-eq-PLACE-KIND c =
-    let o = given-ok _ _ _ c.in-ok-kind.ensures in
-    let e = ne_eqb _ _ (λ h. c.if-from-eq-PLACE-KIND.false (c.from.ensures ∙ o.1 ∙ h)) in
-    given _ _ _ (goes _ _ _ c.in-ok-reaches.ensures o.0) (sym (cond-false (is_place (piece_of c.args.piece)) (PlacePart (piece_of c.args.piece)) (InnerPart (piece_of c.args.piece)) e))
+returns-else-from-eq-PLACE_KIND c =
+    let o = given-ok _ _ _ c.in_ok-kind.ensures in
+    let e = ne_eqb _ _ (λ h. c.if-from-eq-PLACE_KIND.false (c.from.ensures ∙ o.1 ∙ h)) in
+    given _ _ _ (goes _ _ _ c.in_ok-reaches.ensures o.0) (sym (cond-false (is_place (piece_of c.args.piece)) (PlacePart (piece_of c.args.piece)) (InnerPart (piece_of c.args.piece)) e))

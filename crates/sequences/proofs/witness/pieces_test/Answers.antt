@@ -19,17 +19,17 @@ module _ (c : In-Some) where
   handed : Given (reader_of c.loop-piece.reader) (data_of c.in-Some.piece)
   handed =
       some-handed (reader_of c.loop-piece.reader) (data_of c.in-Some.piece)
-      (ap (λ (o : Option WitnessPiece). Ok (option_map data_of o)) (sym c.in-Some.is) ∙ c.in-ok-piece.ensures.handed)
+      (ap (λ (o : Option WitnessPiece). Ok (option_map data_of o)) (sym c.in-Some.is) ∙ c.in_ok-piece.ensures.handed)
 
   short : length c.loop-piece.reader.bytes.now < 2 ^ 64
   short =
       let h : length c.args.bytes.now < 2 ^ 64 = search rules in
       subst (λ (xs : List ℕ). length xs < 2 ^ 64) (sym c.loop-piece.invariant.same) h
 
-pub returns-in-err-piece : goal.returns-in-err-piece
-returns-in-err-piece c =
-    let p = err_from_is_err_and c.from-residual.result c.from-residual.ensures.1 in
-    let h = fault-handed (reader_of c.loop-piece.reader) _ c.in-err-piece.ensures.handed in
+pub returns-in_err-piece : goal.returns-in_err-piece
+returns-in_err-piece c =
+    let p = err_from_is_err_and c.from_residual.result c.from_residual.ensures.1 in
+    let h = fault-handed (reader_of c.loop-piece.reader) _ c.in_err-piece.ensures.handed in
     rw (p.1, p.2) (given-fault _ _ _ (walking-lost c.args.shape c.args.bytes.now (reader_of c.loop-piece.reader) (progress_of c.loop-piece.noted) c.loop-piece.invariant _ h.0 h.1))
 
 pub read-requires : goal.read-requires
@@ -37,18 +37,18 @@ read-requires c =
     let d = (goal.at.read-requires c).In-Some in
     record { located = part-located (reader_of c.loop-piece.reader) (data_of c.in-Some.piece) (handed d) (short d); choices = c.requires }
 
-pub returns-in-err-read : goal.returns-in-err-read
-returns-in-err-read c =
-    let p = err_from_is_err_and c.from-residual-in-err-read.result c.from-residual-in-err-read.ensures.1 in
-    let d = (goal.at.returns-in-err-read c).In-Some in
-    rw (p.1, p.2) (given-fault _ _ _ (walking-refused c.args.shape c.args.bytes.now (reader_of c.loop-piece.reader) (progress_of c.loop-piece.noted) c.loop-piece.invariant (data_of c.in-Some.piece) (handed d) _ (given-err _ _ _ c.in-err-read.ensures.answer)))
+pub returns-in_err-read : goal.returns-in_err-read
+returns-in_err-read c =
+    let p = err_from_is_err_and c.from_residual-in_err-read.result c.from_residual-in_err-read.ensures.1 in
+    let d = (goal.at.returns-in_err-read c).In-Some in
+    rw (p.1, p.2) (given-fault _ _ _ (walking-refused c.args.shape c.args.bytes.now (reader_of c.loop-piece.reader) (progress_of c.loop-piece.noted) c.loop-piece.invariant (data_of c.in-Some.piece) (handed d) _ (given-err _ _ _ c.in_err-read.ensures.answer)))
 
 pub loop-piece-preserved : goal.loop-piece-preserved
 loop-piece-preserved c =
     let d = (goal.at.loop-piece-preserved c).In-Some in
-    let m = walking-more c.args.shape c.args.bytes.now (reader_of c.loop-piece.reader) (progress_of c.loop-piece.noted) c.loop-piece.invariant (data_of c.in-Some.piece) (handed d) (given-ok _ _ _ c.in-ok-read.ensures.answer).0 in
+    let m = walking-more c.args.shape c.args.bytes.now (reader_of c.loop-piece.reader) (progress_of c.loop-piece.noted) c.loop-piece.invariant (data_of c.in-Some.piece) (handed d) (given-ok _ _ _ c.in_ok-read.ensures.answer).0 in
     subst (λ (q : ReaderData). Walking c.args.shape c.args.bytes.now q (progress_of c.read.new.self)) (sym c.next.ensures.stands)
-    (subst (Walking c.args.shape c.args.bytes.now (passed_at (reader_of c.loop-piece.reader))) (sym c.in-ok-read.ensures.after) m)
+    (subst (Walking c.args.shape c.args.bytes.now (passed_at (reader_of c.loop-piece.reader))) (sym c.in_ok-read.ensures.after) m)
 
 pub loop-piece-smaller : goal.loop-piece-smaller
 loop-piece-smaller c =
@@ -57,6 +57,6 @@ loop-piece-smaller c =
 
 pub returns : goal.returns
 returns c =
-    let n = none-handed (reader_of c.loop-piece.reader) (ap (λ (o : Option WitnessPiece). Ok (option_map data_of o)) (sym c.in-default.is) ∙ c.in-ok-piece.ensures.handed) in
+    let n = none-handed (reader_of c.loop-piece.reader) (ap (λ (o : Option WitnessPiece). Ok (option_map data_of o)) (sym c.in_default.is) ∙ c.in_ok-piece.ensures.handed) in
     let w = walking-done c.args.shape c.args.bytes.now (reader_of c.loop-piece.reader) (progress_of c.loop-piece.noted) c.loop-piece.invariant n in
     given _ _ _ w.0 w.1

@@ -12,6 +12,6 @@ load-requires c = enough c.new-transitions.result most_transitions c.transition-
 
 pub returns : goal.returns
 returns c =
-    let p = given-ok _ _ _ c.in-ok-heading.ensures.answer in
+    let p = given-ok _ _ _ c.in_ok-heading.ensures.answer in
     given _ _ _ p.0
-    (c.short.ensures ∙ table-short c.in-ok-heading.heading (held c.load.new.transitions) (table_at c.args.bytes.now) c.len.result p.1 c.in-ok-heading.ensures.memory.0 c.len.ensures.value)
+    (c.short.ensures ∙ table-short c.in_ok-heading.heading (held c.load.new.transitions) (table_at c.args.bytes.now) c.len.result p.1 c.in_ok-heading.ensures.memory.0 c.len.ensures.value)

@@ -2,4 +2,4 @@ use Rattle.std.proofs.Common.{◌≡◌, length}
 use Rattle.vectors.proofs.multiplier_vectors.greatest_sums.Given as goal
 
 abbrev pub invariant-loop-k : goal.invariant-loop-k
-invariant-loop-k l = length l.bytes ≡ 66
+invariant-loop-k g l = length l.bytes ≡ 66

@@ -8,11 +8,11 @@ use Rattle.words.proofs.hex.all_hex.Goals as goal
 step : (bs : List ℕ) (i : ℕ) (t : Bool) → all_hex (drop i bs) ≡ all_hex bs → i < length bs → t ≡ is_ascii_hexdigit (get_or bs i 0) → (t && all_hex (drop (i + 1) bs)) ≡ all_hex bs
 step bs i t inv h e = ap (λ s. s && all_hex (drop (i + 1) bs)) e ∙ sym (at_drop_more all_hex bs i 0 h) ∙ inv
 
-pub returns-then-not-is-ascii-hexdigit : goal.returns-then-not-is-ascii-hexdigit
-returns-then-not-is-ascii-hexdigit c = step _ _ _ c.loop-byte.invariant c.loop-byte-test.true c.if-not-is-ascii-hexdigit.ensures.value
+pub returns-then-not-is_ascii_hexdigit : goal.returns-then-not-is_ascii_hexdigit
+returns-then-not-is_ascii_hexdigit c = step _ _ _ c.loop-byte.invariant c.loop-byte-test.true c.if-not-is_ascii_hexdigit.ensures.value
 
 pub loop-byte-preserved : goal.loop-byte-preserved
-loop-byte-preserved c = step _ _ _ c.loop-byte.invariant c.loop-byte-test.true c.if-not-is-ascii-hexdigit.ensures.value
+loop-byte-preserved c = step _ _ _ c.loop-byte.invariant c.loop-byte-test.true c.if-not-is_ascii_hexdigit.ensures.value
 
 pub returns : goal.returns
 returns c = sym (at_drop_all all_hex c.args.bytes.now c.loop-byte.byte-index c.loop-byte-test.false) ∙ c.loop-byte.invariant

@@ -7,5 +7,5 @@ use Rattle.words.proofs.numerals.is_number.Goals as goal
 
 pub returns-in-None : goal.returns-in-None
 returns-in-None c =
-    c.is-numeral-in-None.ensures ∙ ap is_numeral c.as-bytes-in-None.ensures.value
-    ∙ number-plain _ (MatchOption-at_none _ _ c.in-None.is (strip_prefix_char 45 c.args.word.now _ c.strip-prefix.ensures.cases (omega arith)))
+    c.is_numeral-in-None.ensures ∙ ap is_numeral c.as_bytes-in-None.ensures.value
+    ∙ number-plain _ (MatchOption-at_none _ _ c.in-None.is (strip_prefix_char 45 c.args.word.now _ c.strip_prefix.ensures.cases (omega arith)))

@@ -8,7 +8,7 @@ use Rattle.commands.proofs.stacks.Stack.read.Goals as goal
 pub returns-in-Some : goal.returns-in-Some
 unfolding stack_of
 returns-in-Some c =
-    let parts = MatchOption-at_some _ _ _ c.in-Some.is (split_parts 47 c.args.word.now _ c.split-once.ensures.cases (omega arith)) in
+    let parts = MatchOption-at_some _ _ _ c.in-Some.is (split_parts 47 c.args.word.now _ c.split_once.ensures.cases (omega arith)) in
     let top = c.in-Some.top.now in
     let below = c.in-Some.below.now in
     record {
@@ -19,5 +19,5 @@ returns-in-Some c =
 pub returns-in-None : goal.returns-in-None
 unfolding stack_of
 returns-in-None c =
-    let none = MatchOption-at_none _ _ c.in-None.is (split_parts 47 c.args.word.now _ c.split-once.ensures.cases (omega arith)) in
+    let none = MatchOption-at_none _ _ c.in-None.is (split_parts 47 c.args.word.now _ c.split_once.ensures.cases (omega arith)) in
     record { value = c.bare.ensures ∙ sym (stacked-base 2 c.args.word.now (no_slash _ none)); law = stacks-read }

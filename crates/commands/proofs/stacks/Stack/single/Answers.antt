@@ -7,7 +7,7 @@ use Rattle.commands.proofs.stacks.Stack.single.Goals as goal
 
 pub returns-in-Some : goal.returns-in-Some
 returns-in-Some c =
-    let parts = MatchOption-at_some _ _ _ c.in-Some.is (split_parts 47 c.args.word.now _ c.split-once.ensures.cases (omega arith)) in
+    let parts = MatchOption-at_some _ _ _ c.in-Some.is (split_parts 47 c.args.word.now _ c.split_once.ensures.cases (omega arith)) in
     let top = c.in-Some.top.now in
     let below = c.in-Some.below.now in
     c.layered.ensures ∙ ap (over (layer_of top)) (c.bare.ensures ∙ sym (base-alone below))
@@ -15,5 +15,5 @@ returns-in-Some c =
 
 pub returns-in-None : goal.returns-in-None
 returns-in-None c =
-    let none = MatchOption-at_none _ _ c.in-None.is (split_parts 47 c.args.word.now _ c.split-once.ensures.cases (omega arith)) in
+    let none = MatchOption-at_none _ _ c.in-None.is (split_parts 47 c.args.word.now _ c.split_once.ensures.cases (omega arith)) in
     c.bare-in-None.ensures ∙ sym (stacked-base 1 c.args.word.now (no_slash _ none))

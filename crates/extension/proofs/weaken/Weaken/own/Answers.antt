@@ -2,5 +2,5 @@ use Rattle.std.proofs.Common.{sym, rules}
 use Rattle.extension.specs.WeakenLaws.{slack-yes}
 use Rattle.extension.proofs.weaken.Weaken.own.Goals as goal
 
-pub ask-lower-requires : goal.ask-lower-requires
-ask-lower-requires g c = record { within = c.requires; long = (slack-yes c.args.certificate.now (sym c.in-ok-lowered.ensures.0)).0 }
+pub ask_lower-requires : goal.ask_lower-requires
+ask_lower-requires g c = record { within = c.requires; long = (slack-yes c.args.certificate.now (sym c.in_ok-lowered.ensures.0)).0 }

@@ -16,30 +16,30 @@ returns-then-count-sheet g c =
     let a = ap (λ (f : Fault). Err f) c.of.ensures ∙ asked-many c.args.count c.args.sheet.now c.args.goal.now c.args.certificate.now (weaken_says m) c.if-count-sheet.true in
     record { answer = a; kept = refl; exactly = exactly _ _ _ _ (weaken_says m) (WeakenYes m) _ a (weaken-only m) (weaken-if m) }
 
-pub returns-in-err-row : goal.returns-in-err-row
-returns-in-err-row g c =
+pub returns-in_err-row : goal.returns-in_err-row
+returns-in_err-row g c =
     let m = g.M.ProofMethod.meaning c.args.self.now.below in
-    let p = err_from_is_err_and c.from-residual.result c.from-residual.ensures.1 in
-    let a : c.from-residual.result ≡ asked (weaken_says m) c.args.count c.args.sheet.now c.args.goal.now c.args.certificate.now =
-    rw (p.1, p.2) (weaken-no-row m c.args.count c.args.sheet.now c.args.goal.now c.args.certificate.now c.if-count-sheet.false _ (row-from-err _ _ c.in-err-row.ensures)) in
+    let p = err_from_is_err_and c.from_residual.result c.from_residual.ensures.1 in
+    let a : c.from_residual.result ≡ asked (weaken_says m) c.args.count c.args.sheet.now c.args.goal.now c.args.certificate.now =
+    rw (p.1, p.2) (weaken-no-row m c.args.count c.args.sheet.now c.args.goal.now c.args.certificate.now c.if-count-sheet.false _ (row-from-err _ _ c.in_err-row.ensures)) in
     record { answer = a; kept = refl; exactly = exactly _ _ _ _ (weaken_says m) (WeakenYes m) _ a (weaken-only m) (weaken-if m) }
 
-pub returns-in-err-read : goal.returns-in-err-read
-returns-in-err-read g c =
+pub returns-in_err-read : goal.returns-in_err-read
+returns-in_err-read g c =
     let m = g.M.ProofMethod.meaning c.args.self.now.below in
-    let p = err_from_is_err_and c.from-residual-in-err-read.result c.from-residual-in-err-read.ensures.1 in
-    let a : c.from-residual-in-err-read.result ≡ asked (weaken_says m) c.args.count c.args.sheet.now c.args.goal.now c.args.certificate.now =
-    rw (p.1, p.2) (weaken-byte m c.args.count c.args.sheet.now c.args.goal.now c.args.certificate.now c.if-count-sheet.false _ (row-from-ok c.args.goal.now c.in-ok-row.row c.in-ok-row.ensures) c.in-err-read.ensures) in
+    let p = err_from_is_err_and c.from_residual-in_err-read.result c.from_residual-in_err-read.ensures.1 in
+    let a : c.from_residual-in_err-read.result ≡ asked (weaken_says m) c.args.count c.args.sheet.now c.args.goal.now c.args.certificate.now =
+    rw (p.1, p.2) (weaken-byte m c.args.count c.args.sheet.now c.args.goal.now c.args.certificate.now c.if-count-sheet.false _ (row-from-ok c.args.goal.now c.in_ok-row.row c.in_ok-row.ensures) c.in_err-read.ensures) in
     record { answer = a; kept = refl; exactly = exactly _ _ _ _ (weaken_says m) (WeakenYes m) _ a (weaken-only m) (weaken-if m) }
 
 pub returns-in-HandDown : goal.returns-in-HandDown
 returns-in-HandDown g c =
     let m = g.M.ProofMethod.meaning c.args.self.now.below in
-    let a = weaken-handed m c.args.count c.args.sheet.now c.args.goal.now c.args.certificate.now c.if-count-sheet.false _ (row-from-ok c.args.goal.now c.in-ok-row.row c.in-ok-row.ensures) (ap (λ (b : FirstByte). Ok b) (sym c.in-HandDown.is) ∙ c.in-ok-read.ensures) c.ask-below.ensures.answer in
-    record { answer = a; kept = c.ask-below.ensures.kept; exactly = exactly _ _ _ _ (weaken_says m) (WeakenYes m) _ a (weaken-only m) (weaken-if m) }
+    let a = weaken-handed m c.args.count c.args.sheet.now c.args.goal.now c.args.certificate.now c.if-count-sheet.false _ (row-from-ok c.args.goal.now c.in_ok-row.row c.in_ok-row.ensures) (ap (λ (b : FirstByte). Ok b) (sym c.in-HandDown.is) ∙ c.in_ok-read.ensures) c.ask_below.ensures.answer in
+    record { answer = a; kept = c.ask_below.ensures.kept; exactly = exactly _ _ _ _ (weaken_says m) (WeakenYes m) _ a (weaken-only m) (weaken-if m) }
 
 pub returns-in-Own : goal.returns-in-Own
 returns-in-Own g c =
     let m = g.M.ProofMethod.meaning c.args.self.now.below in
-    let a = weaken-own m c.args.count c.args.sheet.now c.args.goal.now c.args.certificate.now c.if-count-sheet.false _ c.in-ok-row.row.numbers (row-from-ok c.args.goal.now c.in-ok-row.row c.in-ok-row.ensures) (ap (λ (b : FirstByte). Ok b) (sym c.in-Own.is) ∙ c.in-ok-read.ensures) c.in-ok-row.ensures.0 c.own.ensures.answer in
+    let a = weaken-own m c.args.count c.args.sheet.now c.args.goal.now c.args.certificate.now c.if-count-sheet.false _ c.in_ok-row.row.numbers (row-from-ok c.args.goal.now c.in_ok-row.row c.in_ok-row.ensures) (ap (λ (b : FirstByte). Ok b) (sym c.in-Own.is) ∙ c.in_ok-read.ensures) c.in_ok-row.ensures.0 c.own.ensures.answer in
     record { answer = a; kept = c.own.ensures.kept; exactly = exactly _ _ _ _ (weaken_says m) (WeakenYes m) _ a (weaken-only m) (weaken-if m) }

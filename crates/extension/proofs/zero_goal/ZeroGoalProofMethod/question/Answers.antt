@@ -13,5 +13,5 @@ returns-then-count-sheet c =
 
 pub returns : goal.returns
 returns c =
-    let a = c.goal-test.ensures ∙ sym (asked-within c.args.count c.args.sheet.now c.args.goal.now c.args.certificate.now zero_goal_says c.if-count-sheet.false) in
+    let a = c.goal_test.ensures ∙ sym (asked-within c.args.count c.args.sheet.now c.args.goal.now c.args.certificate.now zero_goal_says c.if-count-sheet.false) in
     record { answer = a; kept = refl; same = refl; exactly = exactly _ _ _ _ zero_goal_says ZeroGoalYes _ a zero-goal-only zero-goal-if }

@@ -18,37 +18,37 @@ returns-then-count-sheet g c =
     let a = ap (λ (f : Fault). Err f) c.of.ensures ∙ asked-many c.args.count c.args.sheet.now c.args.goal.now c.args.certificate.now (cut_says m) c.if-count-sheet.true in
     record { answer = a; kept = refl; exactly = exactly _ _ _ _ (cut_says m) (CutYes m) _ a (cut-only m) (cut-if m) }
 
-pub returns-in-err-opening : goal.returns-in-err-opening
-returns-in-err-opening g c =
+pub returns-in_err-opening : goal.returns-in_err-opening
+returns-in_err-opening g c =
     let m = g.M.ProofMethod.meaning c.args.self.now.below in
-    let p = err_from_is_err_and c.from-residual.result c.from-residual.ensures.1 in
-    let a : c.from-residual.result ≡ asked (cut_says m) c.args.count c.args.sheet.now c.args.goal.now c.args.certificate.now =
-    rw (p.1, p.2) (layer-stops cut_own m c.args.count c.args.sheet.now c.args.goal.now c.args.certificate.now _ c.if-count-sheet.false c.in-err-opening.ensures) in
+    let p = err_from_is_err_and c.from_residual.result c.from_residual.ensures.1 in
+    let a : c.from_residual.result ≡ asked (cut_says m) c.args.count c.args.sheet.now c.args.goal.now c.args.certificate.now =
+    rw (p.1, p.2) (layer-stops cut_own m c.args.count c.args.sheet.now c.args.goal.now c.args.certificate.now _ c.if-count-sheet.false c.in_err-opening.ensures) in
     record { answer = a; kept = refl; exactly = exactly _ _ _ _ (cut_says m) (CutYes m) _ a (cut-only m) (cut-if m) }
 
-pub returns-in-err-read : goal.returns-in-err-read
-returns-in-err-read g c =
+pub returns-in_err-read : goal.returns-in_err-read
+returns-in_err-read g c =
     let m = g.M.ProofMethod.meaning c.args.self.now.below in
-    let p = err_from_is_err_and c.from-residual-in-err-read.result c.from-residual-in-err-read.ensures.1 in
-    let a : c.from-residual-in-err-read.result ≡ asked (cut_says m) c.args.count c.args.sheet.now c.args.goal.now c.args.certificate.now =
-    rw (p.1, p.2) (layer-byte cut_own m c.args.count c.args.sheet.now c.args.goal.now c.args.certificate.now _ c.if-count-sheet.false c.in-ok-opening.ensures c.in-err-read.ensures) in
+    let p = err_from_is_err_and c.from_residual-in_err-read.result c.from_residual-in_err-read.ensures.1 in
+    let a : c.from_residual-in_err-read.result ≡ asked (cut_says m) c.args.count c.args.sheet.now c.args.goal.now c.args.certificate.now =
+    rw (p.1, p.2) (layer-byte cut_own m c.args.count c.args.sheet.now c.args.goal.now c.args.certificate.now _ c.if-count-sheet.false c.in_ok-opening.ensures c.in_err-read.ensures) in
     record { answer = a; kept = refl; exactly = exactly _ _ _ _ (cut_says m) (CutYes m) _ a (cut-only m) (cut-if m) }
 
 pub own-requires : goal.own-requires
 own-requires g c =
     record {
       within = c.if-count-sheet.false;
-      opened = subst (λ (fs : List Numbers). Opened fs c.args.goal.now) (front c.args.sheet.now c.args.count) (opening-yes _ _ (sym c.in-ok-opening.ensures));
+      opened = subst (λ (fs : List Numbers). Opened fs c.args.goal.now) (front c.args.sheet.now c.args.count) (opening-yes _ _ (sym c.in_ok-opening.ensures));
     }
 
 pub returns-in-HandDown : goal.returns-in-HandDown
 returns-in-HandDown g c =
     let m = g.M.ProofMethod.meaning c.args.self.now.below in
-    let a = layer-handed cut_own m c.args.count c.args.sheet.now c.args.goal.now c.args.certificate.now _ c.if-count-sheet.false c.in-ok-opening.ensures (ap (λ (b : FirstByte). Ok b) (sym c.in-HandDown.is) ∙ c.in-ok-read.ensures) c.handed.ensures.answer in
+    let a = layer-handed cut_own m c.args.count c.args.sheet.now c.args.goal.now c.args.certificate.now _ c.if-count-sheet.false c.in_ok-opening.ensures (ap (λ (b : FirstByte). Ok b) (sym c.in-HandDown.is) ∙ c.in_ok-read.ensures) c.handed.ensures.answer in
     record { answer = a; kept = c.handed.ensures.kept; exactly = exactly _ _ _ _ (cut_says m) (CutYes m) _ a (cut-only m) (cut-if m) }
 
 pub returns-in-Own : goal.returns-in-Own
 returns-in-Own g c =
     let m = g.M.ProofMethod.meaning c.args.self.now.below in
-    let a = layer-own cut_own m c.args.count c.args.sheet.now c.args.goal.now c.args.certificate.now _ c.if-count-sheet.false c.in-ok-opening.ensures (ap (λ (b : FirstByte). Ok b) (sym c.in-Own.is) ∙ c.in-ok-read.ensures) c.own.ensures.answer in
+    let a = layer-own cut_own m c.args.count c.args.sheet.now c.args.goal.now c.args.certificate.now _ c.if-count-sheet.false c.in_ok-opening.ensures (ap (λ (b : FirstByte). Ok b) (sym c.in-Own.is) ∙ c.in_ok-read.ensures) c.own.ensures.answer in
     record { answer = a; kept = c.own.ensures.kept; exactly = exactly _ _ _ _ (cut_says m) (CutYes m) _ a (cut-only m) (cut-if m) }

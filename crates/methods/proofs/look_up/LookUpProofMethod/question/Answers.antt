@@ -14,14 +14,14 @@ returns-then-count-sheet c =
     let a = ap (λ (f : Fault). Err f) c.of.ensures ∙ asked-many c.args.count c.args.sheet.now c.args.goal.now c.args.certificate.now look_up_says c.if-count-sheet.true in
     record { answer = a; kept = refl; same = refl; stated = look-up-faults _ _ _ _ _ a; exactly = exactly _ _ _ _ look_up_says LookUpYes _ a look-up-only look-up-if }
 
-pub returns-in-err-opening : goal.returns-in-err-opening
-returns-in-err-opening c =
-    let p = err_from_is_err_and c.from-residual.result c.from-residual.ensures.1 in
-    let a : c.from-residual.result ≡ asked look_up_says c.args.count c.args.sheet.now c.args.goal.now c.args.certificate.now =
-    rw (p.1, p.2) (asked-stops c.args.count c.args.sheet.now c.args.goal.now c.args.certificate.now (λ q. search_says q.facts q.goal q.certificate) _ c.if-count-sheet.false c.in-err-opening.ensures) in
+pub returns-in_err-opening : goal.returns-in_err-opening
+returns-in_err-opening c =
+    let p = err_from_is_err_and c.from_residual.result c.from_residual.ensures.1 in
+    let a : c.from_residual.result ≡ asked look_up_says c.args.count c.args.sheet.now c.args.goal.now c.args.certificate.now =
+    rw (p.1, p.2) (asked-stops c.args.count c.args.sheet.now c.args.goal.now c.args.certificate.now (λ q. search_says q.facts q.goal q.certificate) _ c.if-count-sheet.false c.in_err-opening.ensures) in
     record { answer = a; kept = refl; same = refl; stated = look-up-faults _ _ _ _ _ a; exactly = exactly _ _ _ _ look_up_says LookUpYes _ a look-up-only look-up-if }
 
 pub returns : goal.returns
 returns c =
-    let a = asked-goes c.args.count c.args.sheet.now c.args.goal.now c.args.certificate.now (λ q. search_says q.facts q.goal q.certificate) _ c.if-count-sheet.false c.in-ok-opening.ensures c.search-test.ensures in
+    let a = asked-goes c.args.count c.args.sheet.now c.args.goal.now c.args.certificate.now (λ q. search_says q.facts q.goal q.certificate) _ c.if-count-sheet.false c.in_ok-opening.ensures c.search_test.ensures in
     record { answer = a; kept = refl; same = refl; stated = look-up-faults _ _ _ _ _ a; exactly = exactly _ _ _ _ look_up_says LookUpYes _ a look-up-only look-up-if }

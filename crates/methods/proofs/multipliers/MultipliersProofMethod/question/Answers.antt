@@ -15,17 +15,17 @@ returns-then-count-sheet c =
     let a = ap (λ (f : Fault). Err f) c.of.ensures ∙ asked-many c.args.count c.args.sheet.now c.args.goal.now c.args.certificate.now multipliers_say c.if-count-sheet.true in
     record { answer = a; kept = refl; same = refl; stated = multipliers-faults _ _ _ _ _ a; exactly = exactly _ _ _ _ multipliers_say MultipliersYes _ a multipliers-only multipliers-if }
 
-pub returns-in-err-opening : goal.returns-in-err-opening
-returns-in-err-opening c =
-    let p = err_from_is_err_and c.from-residual.result c.from-residual.ensures.1 in
-    let a : c.from-residual.result ≡ asked multipliers_say c.args.count c.args.sheet.now c.args.goal.now c.args.certificate.now =
-    rw (p.1, p.2) (asked-stops c.args.count c.args.sheet.now c.args.goal.now c.args.certificate.now (λ q. sums_say q.facts q.goal q.certificate) _ c.if-count-sheet.false c.in-err-opening.ensures) in
+pub returns-in_err-opening : goal.returns-in_err-opening
+returns-in_err-opening c =
+    let p = err_from_is_err_and c.from_residual.result c.from_residual.ensures.1 in
+    let a : c.from_residual.result ≡ asked multipliers_say c.args.count c.args.sheet.now c.args.goal.now c.args.certificate.now =
+    rw (p.1, p.2) (asked-stops c.args.count c.args.sheet.now c.args.goal.now c.args.certificate.now (λ q. sums_say q.facts q.goal q.certificate) _ c.if-count-sheet.false c.in_err-opening.ensures) in
     record { answer = a; kept = refl; same = refl; stated = multipliers-faults _ _ _ _ _ a; exactly = exactly _ _ _ _ multipliers_say MultipliersYes _ a multipliers-only multipliers-if }
 
-pub sums-test-requires : goal.sums-test-requires
-sums-test-requires c = opening-yes _ _ (sym c.in-ok-opening.ensures)
+pub sums_test-requires : goal.sums_test-requires
+sums_test-requires c = opening-yes _ _ (sym c.in_ok-opening.ensures)
 
 pub returns : goal.returns
 returns c =
-    let a = asked-goes c.args.count c.args.sheet.now c.args.goal.now c.args.certificate.now (λ q. sums_say q.facts q.goal q.certificate) _ c.if-count-sheet.false c.in-ok-opening.ensures c.sums-test.ensures in
+    let a = asked-goes c.args.count c.args.sheet.now c.args.goal.now c.args.certificate.now (λ q. sums_say q.facts q.goal q.certificate) _ c.if-count-sheet.false c.in_ok-opening.ensures c.sums_test.ensures in
     record { answer = a; kept = refl; same = refl; stated = multipliers-faults _ _ _ _ _ a; exactly = exactly _ _ _ _ multipliers_say MultipliersYes _ a multipliers-only multipliers-if }

@@ -16,30 +16,30 @@ returns-then-count-sheet g c =
     let a = ap (λ (f : Fault). Err f) c.of.ensures ∙ asked-many c.args.count c.args.sheet.now c.args.goal.now c.args.certificate.now (split_says m) c.if-count-sheet.true in
     record { answer = a; kept = refl; exactly = exactly _ _ _ _ (split_says m) (SplitYes m) _ a (split-only m) (split-if m) }
 
-pub returns-in-err-opening : goal.returns-in-err-opening
-returns-in-err-opening g c =
+pub returns-in_err-opening : goal.returns-in_err-opening
+returns-in_err-opening g c =
     let m = g.M.ProofMethod.meaning c.args.self.now.below in
-    let p = err_from_is_err_and c.from-residual.result c.from-residual.ensures.1 in
-    let a : c.from-residual.result ≡ asked (split_says m) c.args.count c.args.sheet.now c.args.goal.now c.args.certificate.now =
-    rw (p.1, p.2) (layer-stops split_own m c.args.count c.args.sheet.now c.args.goal.now c.args.certificate.now _ c.if-count-sheet.false c.in-err-opening.ensures) in
+    let p = err_from_is_err_and c.from_residual.result c.from_residual.ensures.1 in
+    let a : c.from_residual.result ≡ asked (split_says m) c.args.count c.args.sheet.now c.args.goal.now c.args.certificate.now =
+    rw (p.1, p.2) (layer-stops split_own m c.args.count c.args.sheet.now c.args.goal.now c.args.certificate.now _ c.if-count-sheet.false c.in_err-opening.ensures) in
     record { answer = a; kept = refl; exactly = exactly _ _ _ _ (split_says m) (SplitYes m) _ a (split-only m) (split-if m) }
 
-pub returns-in-err-read : goal.returns-in-err-read
-returns-in-err-read g c =
+pub returns-in_err-read : goal.returns-in_err-read
+returns-in_err-read g c =
     let m = g.M.ProofMethod.meaning c.args.self.now.below in
-    let p = err_from_is_err_and c.from-residual-in-err-read.result c.from-residual-in-err-read.ensures.1 in
-    let a : c.from-residual-in-err-read.result ≡ asked (split_says m) c.args.count c.args.sheet.now c.args.goal.now c.args.certificate.now =
-    rw (p.1, p.2) (layer-byte split_own m c.args.count c.args.sheet.now c.args.goal.now c.args.certificate.now _ c.if-count-sheet.false c.in-ok-opening.ensures c.in-err-read.ensures) in
+    let p = err_from_is_err_and c.from_residual-in_err-read.result c.from_residual-in_err-read.ensures.1 in
+    let a : c.from_residual-in_err-read.result ≡ asked (split_says m) c.args.count c.args.sheet.now c.args.goal.now c.args.certificate.now =
+    rw (p.1, p.2) (layer-byte split_own m c.args.count c.args.sheet.now c.args.goal.now c.args.certificate.now _ c.if-count-sheet.false c.in_ok-opening.ensures c.in_err-read.ensures) in
     record { answer = a; kept = refl; exactly = exactly _ _ _ _ (split_says m) (SplitYes m) _ a (split-only m) (split-if m) }
 
 pub returns-in-HandDown : goal.returns-in-HandDown
 returns-in-HandDown g c =
     let m = g.M.ProofMethod.meaning c.args.self.now.below in
-    let a = layer-handed split_own m c.args.count c.args.sheet.now c.args.goal.now c.args.certificate.now _ c.if-count-sheet.false c.in-ok-opening.ensures (ap (λ (b : FirstByte). Ok b) (sym c.in-HandDown.is) ∙ c.in-ok-read.ensures) c.handed.ensures.answer in
+    let a = layer-handed split_own m c.args.count c.args.sheet.now c.args.goal.now c.args.certificate.now _ c.if-count-sheet.false c.in_ok-opening.ensures (ap (λ (b : FirstByte). Ok b) (sym c.in-HandDown.is) ∙ c.in_ok-read.ensures) c.handed.ensures.answer in
     record { answer = a; kept = c.handed.ensures.kept; exactly = exactly _ _ _ _ (split_says m) (SplitYes m) _ a (split-only m) (split-if m) }
 
 pub returns-in-Own : goal.returns-in-Own
 returns-in-Own g c =
     let m = g.M.ProofMethod.meaning c.args.self.now.below in
-    let a = layer-own split_own m c.args.count c.args.sheet.now c.args.goal.now c.args.certificate.now _ c.if-count-sheet.false c.in-ok-opening.ensures (ap (λ (b : FirstByte). Ok b) (sym c.in-Own.is) ∙ c.in-ok-read.ensures) c.own.ensures.answer in
+    let a = layer-own split_own m c.args.count c.args.sheet.now c.args.goal.now c.args.certificate.now _ c.if-count-sheet.false c.in_ok-opening.ensures (ap (λ (b : FirstByte). Ok b) (sym c.in-Own.is) ∙ c.in_ok-read.ensures) c.own.ensures.answer in
     record { answer = a; kept = c.own.ensures.kept; exactly = exactly _ _ _ _ (split_says m) (SplitYes m) _ a (split-only m) (split-if m) }

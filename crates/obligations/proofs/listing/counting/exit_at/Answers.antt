@@ -22,8 +22,8 @@ module _ (c : After-from-exits) where
   group : map (λ (k : ℕ). Exit c.unwrap-transition.result.number) (range_with_len 0 c.from-exits.result) ≡ exits_of (witness_of c.args.places.now c.args.inners.now) (transition_of c.unwrap-transition.result)
   group =
       ap (λ (n : ℕ). map (λ (k : ℕ). Exit c.unwrap-transition.result.number) (range_with_len 0 n)) c.from-exits.ensures
-      ∙ one-or-none c.is-exit.result (Exit c.unwrap-transition.result.number)
-      ∙ ap (λ (b : Bool). cond b (Exit c.unwrap-transition.result.number ∷ []) []) c.is-exit.ensures
+      ∙ one-or-none c.is_exit.result (Exit c.unwrap-transition.result.number)
+      ∙ ap (λ (b : Bool). cond b (Exit c.unwrap-transition.result.number ∷ []) []) c.is_exit.ensures
 
 pub returns-then-left-exits : goal.returns-then-left-exits
 returns-then-left-exits c =

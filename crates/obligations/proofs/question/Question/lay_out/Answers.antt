@@ -26,8 +26,8 @@ module _ (c : In-Some) where
       let n = c.len.ensures.value in
       omega (arith, w, n, c.if-sheet-len.false)
 
-pub offset-bounds-sheet-index : goal.offset-bounds-sheet-index
-offset-bounds-sheet-index c = let f = few (goal.at.offset-bounds-sheet-index c).In-Some in omega (arith, f)
+pub offset_bounds-sheet-index : goal.offset_bounds-sheet-index
+offset_bounds-sheet-index c = let f = few (goal.at.offset_bounds-sheet-index c).In-Some in omega (arith, f)
 
 pub bounds-sheet-index : goal.bounds-sheet-index
 bounds-sheet-index c =
@@ -35,8 +35,8 @@ bounds-sheet-index c =
     let k = c.loop-fact.auto.sheet in
     omega (arith, r, k)
 
-pub overflow-add-index : goal.overflow-add-index
-overflow-add-index c = let f = few (goal.at.overflow-add-index c).In-Some in omega (arith, f)
+pub overflow_add-index : goal.overflow_add-index
+overflow_add-index c = let f = few (goal.at.overflow_add-index c).In-Some in omega (arith, f)
 
 pub loop-fact-smaller : goal.loop-fact-smaller
 loop-fact-smaller c = let w = within (goal.at.loop-fact-smaller c).In-Some in omega (arith, w)
@@ -53,7 +53,7 @@ loop-fact-preserved c =
 pub returns : goal.returns
 returns c =
     let fs = listed c.args.self.now.facts in
-    let p = past-none c.loop-fact.index fs c.in-default.ensures in
+    let p = past-none c.loop-fact.index fs c.in_default.ensures in
     let e : c.loop-fact.index ≡ length fs = omega (arith, p, c.loop-fact.invariant.0) in
     let n = c.len.ensures.value in (
       e,

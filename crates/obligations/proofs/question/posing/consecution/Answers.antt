@@ -7,23 +7,23 @@ use Rattle.obligations.proofs.GivenParts.{found, same-posed}
 use Rattle.obligations.proofs.ShortLists.{plain-most}
 use Rattle.obligations.proofs.question.posing.consecution.Goals as goal
 
-pub add-rows-requires : goal.add-rows-requires
-add-rows-requires c =
-    let cs = plain_list row_of c.in-ok-from.from.condition in
-    let gs = plain_list row_of c.in-ok-transition.transition.guard in
-    let e = ap length c.condition-and-guard-facts.ensures ∙ length-append cs gs in
-    let m = plain-most row_of c.in-ok-from.from.condition in
-    let k = plain-most row_of c.in-ok-transition.transition.guard in
+pub add_rows-requires : goal.add_rows-requires
+add_rows-requires c =
+    let cs = plain_list row_of c.in_ok-from.from.condition in
+    let gs = plain_list row_of c.in_ok-transition.transition.guard in
+    let e = ap length c.condition_and_guard-facts.ensures ∙ length-append cs gs in
+    let m = plain-most row_of c.in_ok-from.from.condition in
+    let k = plain-most row_of c.in_ok-transition.transition.guard in
     (lit< tt, omega (arith, e, m, k))
 
 pub returns : goal.returns
 returns c heading =
-    let cs = plain_list row_of c.in-ok-from.from.condition in
-    let gs = plain_list row_of c.in-ok-transition.transition.guard in
-    let rs = plain_list row_of c.in-ok-inner.inner.restrictions in
-    found _ _ _ _ c.in-ok-transition.ensures
-    (found _ _ _ _ c.in-ok-inner.ensures
-    (found _ _ _ _ c.in-ok-from.ensures
-    (found _ _ _ _ c.in-ok-into.ensures
-    (found _ _ _ _ c.in-ok-row.ensures
-    (same-posed _ _ _ _ (c.add-rows.ensures ∙ ap (λ (xs : List Numbers). xs ++ rs) c.condition-and-guard-facts.ensures ∙ append_assoc cs gs rs) c.after-update-goal.ensures.value)))))
+    let cs = plain_list row_of c.in_ok-from.from.condition in
+    let gs = plain_list row_of c.in_ok-transition.transition.guard in
+    let rs = plain_list row_of c.in_ok-inner.inner.restrictions in
+    found _ _ _ _ c.in_ok-transition.ensures
+    (found _ _ _ _ c.in_ok-inner.ensures
+    (found _ _ _ _ c.in_ok-from.ensures
+    (found _ _ _ _ c.in_ok-into.ensures
+    (found _ _ _ _ c.in_ok-row.ensures
+    (same-posed _ _ _ _ (c.add_rows.ensures ∙ ap (λ (xs : List Numbers). xs ++ rs) c.condition_and_guard-facts.ensures ∙ append_assoc cs gs rs) c.after_update-goal.ensures.value)))))

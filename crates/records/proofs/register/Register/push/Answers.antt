@@ -2,9 +2,9 @@ use Rattle.std.proofs.Common.{refl, arith, length-set}
 use Rattle.records.proofs.Fronts.{pushed, full}
 use Rattle.records.proofs.register.Register.push.Goals as goal
 
-pub returns-in-default : goal.returns-in-default
-returns-in-default g c =
-    let h = c.in-default.ensures in
+pub returns-in_default : goal.returns-in_default
+returns-in_default g c =
+    let h = c.in_default.ensures in
     record { took = full c.args.self.now.records.now c.args.self.now.len (omega arith); held = refl; behind = refl; room = refl }
 
 pub returns : goal.returns

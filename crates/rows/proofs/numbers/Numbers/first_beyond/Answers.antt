@@ -1,5 +1,4 @@
-use Rattle.std.proofs.Common.{◌≡◌, true, false, not, sym, ap, ◌∙◌, subst, arith, lit<, w64, SFits, rules}
-use Rattle.std.proofs.lemmas.Int.{to_z-of_z}
+use Rattle.std.proofs.Common.{◌≡◌, true, sym, rules}
 use Rattle.rows.specs.Limits.{magnitude_of, items}
 use Rattle.rows.specs.Shapes.{beyond, first_beyond}
 use Rattle.rows.proofs.First.{none_first, some_first, none-at}

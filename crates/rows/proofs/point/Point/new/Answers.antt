@@ -1,11 +1,11 @@
-use Rattle.std.proofs.Common.{◌≡◌, true, get_or, pos, sym, ap, ◌∙◌, arith, w64, SFits, rules, below_more}
+use Rattle.std.proofs.Common.{get_or, pos, sym, ap, ◌∙◌, arith, w64, SFits, rules, below_more}
 use Rattle.std.proofs.lemmas.Int.{to_z-of_z}
 use Rattle.rows.specs.declared.limits.Limit.TheVariants.{StateValue}
 use Rattle.rows.specs.Limits.{magnitude_of, within}
 use Rattle.rows.proofs.point.Point.new.Goals as goal
 
-pub invariant-of-result : goal.invariant-of-result
-invariant-of-result c = (λ k l. c.loop-index.invariant k (omega arith), tt)
+pub invariant_of-result : goal.invariant_of-result
+invariant_of-result c = record { held = λ k l. c.loop-index.invariant k (omega arith) }
 
 pub loop-index-preserved : goal.loop-index-preserved
 loop-index-preserved c =

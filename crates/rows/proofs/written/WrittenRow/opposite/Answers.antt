@@ -10,26 +10,26 @@ use Rattle.rows.proofs.Items.{same_numbers}
 use Rattle.rows.proofs.Opposites.{opposite-turns, opposite-within}
 use Rattle.rows.proofs.written.WrittenRow.opposite.Goals as goal
 
-pub turned-bound-requires : goal.turned-bound-requires
-turned-bound-requires c =
+pub turned_bound-requires : goal.turned_bound-requires
+turned_bound-requires c =
     passed-bounded (magnitude_of WrittenNumber) (magnitude_of WrittenNumber) _ (lit≤ tt) (lit< tt) (bounded (magnitude_of WrittenNumber) c.args.self.now.numbers.bound (c.args.self.now.held columns (omega arith)))
 
 -- the numbers that the code makes are the opposite's
-made : (c : goal.After-turned-bound) → ◌≡◌ {A = Numbers} (record { coefficients = c.negated.result; bound = to_z w64 (of_z w64 c.turned-bound.result) }) (opposite_of c.args.self.now.numbers)
+made : (c : goal.After-turned_bound) → ◌≡◌ {A = Numbers} (record { coefficients = c.negated.result; bound = to_z w64 (of_z w64 c.turned_bound.result) }) (opposite_of c.args.self.now.numbers)
 made c =
-    let fr : SFits w64 c.turned-bound.result = search rules in
+    let fr : SFits w64 c.turned_bound.result = search rules in
     let fb : SFits w64 c.args.self.now.numbers.bound = search rules in
-    same_numbers _ _ _ _ c.negated.ensures (to_z-of_z w64 _ fr ∙ c.turned-bound.ensures ∙ ap (λ (z : ℤ). neg_ℤ z -ℤ pos 1) (to_z-of_z w64 _ fb))
+    same_numbers _ _ _ _ c.negated.ensures (to_z-of_z w64 _ fr ∙ c.turned_bound.ensures ∙ ap (λ (z : ℤ). neg_ℤ z -ℤ pos 1) (to_z-of_z w64 _ fb))
 
-pub within-limit-requires : goal.within-limit-requires
-within-limit-requires c =
+pub within_limit-requires : goal.within_limit-requires
+within_limit-requires c =
     subst (Within (magnitude_of RowNumber)) (sym (made c))
     (opposite-within (magnitude_of WrittenNumber) (magnitude_of RowNumber) c.args.self.now.numbers (lit≤ tt) c.args.self.now.held)
 
 pub returns : goal.returns
 returns c =
-    let fr : SFits w64 c.turned-bound.result = search rules in
+    let fr : SFits w64 c.turned_bound.result = search rules in
     let fb : SFits w64 c.args.self.now.numbers.bound = search rules in
-    let m = same_numbers _ _ _ _ c.negated.ensures (to_z-of_z w64 _ fr ∙ c.turned-bound.ensures ∙ ap (λ (z : ℤ). neg_ℤ z -ℤ pos 1) (to_z-of_z w64 _ fb)) in
-    let e = c.within-limit.ensures ∙ m in
+    let m = same_numbers _ _ _ _ c.negated.ensures (to_z-of_z w64 _ fr ∙ c.turned_bound.ensures ∙ ap (λ (z : ℤ). neg_ℤ z -ℤ pos 1) (to_z-of_z w64 _ fb)) in
+    let e = c.within_limit.ensures ∙ m in
     record { value = e; turned = subst (TurnsRound c.args.self.now.numbers) (sym e) (opposite-turns c.args.self.now.numbers) }

@@ -1,4 +1,4 @@
-use Rattle.std.proofs.Common.{◌≡◌, ◌<◌, ◌≤◌, length, get_or, ℤ, pos, ◌-ℤ◌, neg_ℤ, ap, ◌∙◌, arith, w64, SFits, to_z, of_z, rules}
+use Rattle.std.proofs.Common.{◌≡◌, ◌<◌, ◌≤◌, length, get_or, pos, ◌-ℤ◌, neg_ℤ, arith, w64, to_z, of_z, rules}
 use Rattle.std.proofs.lemmas.Int.{ints}
 use Rattle.rows.specs.declared.limits.Limit.TheVariants.{WrittenNumber}
 use Rattle.rows.specs.Limits.{columns, magnitude_of}
@@ -6,8 +6,8 @@ use Rattle.rows.proofs.Bounds.{bounded}
 use Rattle.rows.proofs.MapInPlace.{written-more, written_all}
 use Rattle.rows.proofs.written.methods.negated.Goals as goal
 
-pub overflow-sub-turned : goal.overflow-sub-turned
-overflow-sub-turned c =
+pub overflow_sub-turned : goal.overflow_sub-turned
+overflow_sub-turned c =
     let b = bounded (magnitude_of WrittenNumber) (get_or c.args.numbers c.loop-column.column (pos 0)) (c.requires c.loop-column.column c.loop-column-test.true) in
     omega (arith, ints)
 

@@ -12,9 +12,9 @@ use Rattle.sequences.proofs.RecordsSame.{same-progress}
 use Rattle.formats.proofs.WitnessParts.{place-room, inner_room}
 use Rattle.sequences.proofs.witness.Noted.read.Goals as goal
 
-pub returns-in-ok-place : goal.returns-in-ok-place
-returns-in-ok-place c =
-    let o = given-ok _ _ _ c.in-ok-place.ensures in
+pub returns-in_ok-place-in-Place : goal.returns-in_ok-place-in-Place
+returns-in_ok-place-in-Place c =
+    let o = given-ok _ _ _ c.in_ok-place-in-Place.ensures in
     let e = ap data_of (sym c.in-Place.is) in
     let r = place-room c.args.shape _ _ _ _ (sym o.0) in
     let l = took-held _ _ _ _ _ _ c.push.ensures.took r c.push.ensures.listed in
@@ -23,9 +23,9 @@ returns-in-ok-place c =
       after = same-progress (l ∙ ap (λ (n : ℕ). listed c.args.self.now.places ++ n ∷ []) (ap (λ (x : PlaceData). x.number) o.1)) refl ∙ ap (further_by (progress_of c.args.self.now)) e;
     }
 
-pub returns-in-ok-inner : goal.returns-in-ok-inner
-returns-in-ok-inner c =
-    let o = given-ok _ _ _ c.in-ok-inner.ensures in
+pub returns-in_ok-inner-in-Transition : goal.returns-in_ok-inner-in-Transition
+returns-in_ok-inner-in-Transition c =
+    let o = given-ok _ _ _ c.in_ok-inner-in-Transition.ensures in
     let e = ap data_of (sym c.in-Transition.is) in
     let r = inner_room c.args.shape _ _ _ (sym o.0) in
     let l = took-held _ _ _ _ _ _ c.push-in-Transition.ensures.took r c.push-in-Transition.ensures.listed in

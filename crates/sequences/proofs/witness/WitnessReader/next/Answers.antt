@@ -14,29 +14,29 @@ use Rattle.sequences.proofs.witness.WitnessReader.next.Goals as goal
 pub returns-then-self : goal.returns-then-self
 returns-then-self c = record { handed = handed-none (reader_of c.args.self.now) c.if-self.true; stands = passed_none (reader_of c.args.self.now) c.if-self.true }
 
-pub returns-in-err-piece : goal.returns-in-err-piece
-returns-in-err-piece c =
-    let p = err_from_is_err_and c.from-residual.result c.from-residual.ensures.1 in
+pub returns-in_err-piece : goal.returns-in_err-piece
+returns-in_err-piece c =
+    let p = err_from_is_err_and c.from_residual.result c.from_residual.ensures.1 in
     let r = reader_of c.args.self.now in
-    let s = stops _ (kind_says (piece_data r.bytes r.at)) _ c.in-err-piece.ensures in
+    let s = stops _ (kind_says (piece_data r.bytes r.at)) _ c.in_err-piece.ensures in
     rw (p.1, p.2) (record { handed = handed-fault r _ c.if-self.false s; stands = passed-fault r _ c.if-self.false s })
 
-pub returns-in-err-part : goal.returns-in-err-part
-returns-in-err-part c =
-    let p = err_from_is_err_and c.from-residual-in-err-part.result c.from-residual-in-err-part.ensures.1 in
+pub returns-in_err-part : goal.returns-in_err-part
+returns-in_err-part c =
+    let p = err_from_is_err_and c.from_residual-in_err-part.result c.from_residual-in_err-part.ensures.1 in
     let r = reader_of c.args.self.now in
-    let i = c.in-ok-piece.ensures in
-    let s = goes _ _ _ i.0 (given-err _ _ _ c.in-err-part.ensures ∙ ap kind_says (same-piece i.1.offset i.1.rest)) in
+    let i = c.in_ok-piece.ensures in
+    let s = goes _ _ _ i.0 (given-err _ _ _ c.in_err-part.ensures ∙ ap kind_says (same-piece i.1.offset i.1.rest)) in
     rw (p.1, p.2) (record { handed = handed-fault r _ c.if-self.false s; stands = passed-fault r _ c.if-self.false s })
 
 pub returns : goal.returns
 returns c =
     let r = reader_of c.args.self.now in
-    let i = c.in-ok-piece.ensures in
-    let o = given-ok _ _ _ c.in-ok-part.ensures in
+    let i = c.in_ok-piece.ensures in
+    let o = given-ok _ _ _ c.in_ok-part.ensures in
     let e = same-piece i.1.offset i.1.rest in
     let s = goes _ _ _ i.0 (o.0 ∙ ap kind_says e) in
     record {
       handed = handed-some r _ c.if-self.false s (o.1 ∙ ap part_of e);
-      stands = same-reader (c.end-self.ensures ∙ ap (λ (o : ℕ). rest_from o + length c.in-ok-piece.piece.rest.now) i.1.offset ∙ ap (λ (n : ℕ). rest_from r.at + n) i.1.long) ∙ passed-some r c.if-self.false s;
+      stands = same-reader (c.end-self.ensures ∙ ap (λ (o : ℕ). rest_from o + length c.in_ok-piece.piece.rest.now) i.1.offset ∙ ap (λ (n : ℕ). rest_from r.at + n) i.1.long) ∙ passed-some r c.if-self.false s;
     }

@@ -6,7 +6,7 @@ use Rattle.std.proofs.lemmas.Str.{IsCharBoundary-start, IsCharBoundary-after_asc
 use Rattle.std.proofs.lemmas.Bool.Decides.{nat_tests}
 use Rattle.words.specs.Words.{separator, Front}
 use Rattle.words.proofs.Cuts.{Cut, first_word, no_word, words-read}
-use Rattle.words.proofs.words.Words.next.Goals.{After-split-at-2}
+use Rattle.words.proofs.words.Words.next.Goals.{After-split_at-2}
 use Rattle.words.proofs.words.Words.next.Goals as goal
 
 separator-ascii : (b : ℕ) → separator b ≡ true → b < 128
@@ -21,25 +21,25 @@ after-blanks line b text f =
     (λ none. let start : 0 ≡ b = omega arith in subst (IsCharBoundary line) start (IsCharBoundary-start line text))
     (cases_lt 0 b)
 
-pub split-at-requires : goal.split-at-requires
-split-at-requires c =
-    let same = c.as-bytes.ensures.value in
-    after-blanks _ _ (subst IsUtf8 same c.as-bytes.ensures.utf8) (subst (λ l. Front true l c.blanks.result) same c.blanks.ensures)
+pub split_at-requires : goal.split_at-requires
+split_at-requires c =
+    let same = c.as_bytes.ensures.value in
+    after-blanks _ _ (subst IsUtf8 same c.as_bytes.ensures.utf8) (subst (λ l. Front true l c.blanks.result) same c.blanks.ensures)
 
-cut_of : (c : After-split-at-2) → Cut c.args.self.now.rest.now c.split-at.result.1.now c.split-at-2.result.0.now c.split-at-2.result.1.now c.blanks.result c.word-length.result
+cut_of : (c : After-split_at-2) → Cut c.args.self.now.rest.now c.split_at.result.1.now c.split_at-2.result.0.now c.split_at-2.result.1.now c.blanks.result c.word_length.result
 cut_of c = record {
-  gap = subst (λ l. Front true l c.blanks.result) c.as-bytes.ensures.value c.blanks.ensures;
-  after = c.split-at.ensures.back;
-  solid = subst (λ l. Front false l c.word-length.result) c.as-bytes-2.ensures.value c.word-length.ensures;
-  front = c.split-at-2.ensures.front;
-  back = c.split-at-2.ensures.back;
+  gap = subst (λ l. Front true l c.blanks.result) c.as_bytes.ensures.value c.blanks.ensures;
+  after = c.split_at.ensures.back;
+  solid = subst (λ l. Front false l c.word_length.result) c.as_bytes-2.ensures.value c.word_length.ensures;
+  front = c.split_at-2.ensures.front;
+  back = c.split_at-2.ensures.back;
 }
 
-pub returns-then-is-empty : goal.returns-then-is-empty
-returns-then-is-empty c = record { handed = no_word (cut_of (goal.at.returns-then-is-empty c).After-split-at-2) (true-eqb _ 0 c.if-is-empty.ensures); law = words-read }
+pub returns-then-is_empty : goal.returns-then-is_empty
+returns-then-is_empty c = record { handed = no_word (cut_of (goal.at.returns-then-is_empty c).After-split_at-2) (true-eqb _ 0 c.if-is_empty.ensures); law = words-read }
 
-pub returns-else-is-empty : goal.returns-else-is-empty
-returns-else-is-empty c = record {
-  handed = first_word (cut_of (goal.at.returns-else-is-empty c).After-split-at-2) (omega (arith, false-eqb _ 0 c.if-is-empty.ensures));
+pub returns-else-is_empty : goal.returns-else-is_empty
+returns-else-is_empty c = record {
+  handed = first_word (cut_of (goal.at.returns-else-is_empty c).After-split_at-2) (omega (arith, false-eqb _ 0 c.if-is_empty.ensures));
   law = words-read;
 }

@@ -9,42 +9,42 @@ use Rattle.words.proofs.words.Words.numbers.Goals as goal
 
 pub loop-column-preserved : goal.loop-column-preserved
 loop-column-preserved c =
-    let fits : SFits w64 c.in-ok-coefficients.field-0 = search rules in (
+    let fits : SFits w64 c.in_ok-coefficients.field-0 = search rules in (
       length-set _ _ _ ∙ c.loop-column.invariant.0,
-      column-more c.loop-column.coefficients c.loop-column.column _ c.in-ok-coefficients.field-0 (left c.loop-column.self) _ _
-          c.loop-column-test.true c.loop-column.invariant.0 (to_z-of_z w64 _ fits) (sym c.number.ensures.value ∙ c.in-ok-coefficients.was)
+      column-more c.loop-column.coefficients c.loop-column.column _ c.in_ok-coefficients.field-0 (left c.loop-column.self) _ _
+          c.loop-column-test.true c.loop-column.invariant.0 (to_z-of_z w64 _ fits) (sym c.number.ensures.value ∙ c.in_ok-coefficients.was)
           c.number.ensures.after c.loop-column.invariant.1,
     )
 
-pub returns-in-err-coefficients : goal.returns-in-err-coefficients
-returns-in-err-coefficients c =
+pub returns-in_err-coefficients : goal.returns-in_err-coefficients
+returns-in_err-coefficients c =
     let i = c.loop-column.column in
     record {
-      value = handed-err _ _ c.from-residual.ensures.1
+      value = handed-err _ _ c.from_residual.ensures.1
           ∙ sym (nine-err _ _ (sym c.loop-column.invariant.1
-          ∙ numbers-stop (take i c.loop-column.coefficients) (9 - i) (9 - (i + 1)) (left c.loop-column.self) (omega arith) _ (sym c.number.ensures.value ∙ c.in-err-coefficients.was)));
+          ∙ numbers-stop (take i c.loop-column.coefficients) (9 - i) (9 - (i + 1)) (left c.loop-column.self) (omega arith) _ (sym c.number.ensures.value ∙ c.in_err-coefficients.was)));
       law = numbers-read;
     }
 
-pub returns-in-err-bound : goal.returns-in-err-bound
-returns-in-err-bound c =
+pub returns-in_err-bound : goal.returns-in_err-bound
+returns-in_err-bound c =
     let i = c.loop-column.column in
     record {
-      value = handed-err _ _ c.from-residual-in-err-bound.ensures.1
+      value = handed-err _ _ c.from_residual-in_err-bound.ensures.1
           ∙ sym (nine-err _ _ (sym c.loop-column.invariant.1
-          ∙ numbers-stop (take i c.loop-column.coefficients) (9 - i) 0 (left c.loop-column.self) (omega arith) _ (sym c.number-2.ensures.value ∙ c.in-err-bound.was)));
+          ∙ numbers-stop (take i c.loop-column.coefficients) (9 - i) 0 (left c.loop-column.self) (omega arith) _ (sym c.number-2.ensures.value ∙ c.in_err-bound.was)));
       law = numbers-read;
     }
 
-pub returns-in-err-end : goal.returns-in-err-end
-returns-in-err-end c =
+pub returns-in_err-end : goal.returns-in_err-end
+returns-in_err-end c =
     let i = c.loop-column.column in
     let ws = left c.loop-column.self in
     record {
-      value = handed-err _ _ c.from-residual-in-err-end.ensures.1
+      value = handed-err _ _ c.from_residual-in_err-end.ensures.1
           ∙ sym (nine-err _ _ (sym c.loop-column.invariant.1
-          ∙ numbers_more (take i c.loop-column.coefficients) (9 - i) 0 ws (omega arith) c.in-ok-bound.bound (sym c.number-2.ensures.value ∙ c.in-ok-bound.was)
-          ∙ ended-err (tt {0}) _ _ _ (ap (ended (tt {0})) (sym c.number-2.ensures.after) ∙ sym c.end.ensures ∙ c.in-err-end.was)));
+          ∙ numbers_more (take i c.loop-column.coefficients) (9 - i) 0 ws (omega arith) c.in_ok-bound.bound (sym c.number-2.ensures.value ∙ c.in_ok-bound.was)
+          ∙ ended-err (tt {0}) _ _ _ (ap (ended (tt {0})) (sym c.number-2.ensures.after) ∙ sym c.end.ensures ∙ c.in_err-end.was)));
       law = numbers-read;
     }
 
@@ -52,11 +52,11 @@ pub returns : goal.returns
 returns c =
     let i = c.loop-column.column in
     let ws = left c.loop-column.self in
-    let fits : SFits w64 c.in-ok-bound.bound = search rules in
+    let fits : SFits w64 c.in_ok-bound.bound = search rules in
     record {
-      value = ap Ok (shape_is c.loop-column.coefficients i c.in-ok-bound.bound _ c.loop-column.invariant.0 c.loop-column-test.false (to_z-of_z w64 _ fits))
+      value = ap Ok (shape_is c.loop-column.coefficients i c.in_ok-bound.bound _ c.loop-column.invariant.0 c.loop-column-test.false (to_z-of_z w64 _ fits))
           ∙ sym (nine-ok _ _ (sym c.loop-column.invariant.1
-          ∙ numbers_more (take i c.loop-column.coefficients) (9 - i) 0 ws (omega arith) c.in-ok-bound.bound (sym c.number-2.ensures.value ∙ c.in-ok-bound.was)
-          ∙ ended-ok (tt {0}) _ _ (ap (ended (tt {0})) (sym c.number-2.ensures.after) ∙ sym c.end.ensures ∙ c.in-ok-end.was)));
+          ∙ numbers_more (take i c.loop-column.coefficients) (9 - i) 0 ws (omega arith) c.in_ok-bound.bound (sym c.number-2.ensures.value ∙ c.in_ok-bound.was)
+          ∙ ended-ok (tt {0}) _ _ (ap (ended (tt {0})) (sym c.number-2.ensures.after) ∙ sym c.end.ensures ∙ c.in_ok-end.was)));
       law = numbers-read;
     }
