@@ -16,7 +16,7 @@ use Rattle.semantics.proofs.Points.{point-value, padded-filled}
 use Rattle.semantics.proofs.StateRows.{never_met}
 use Rattle.cases.specs.Dossiers.{dossier_making}
 use Rattle.cases.specs.Promises.{EndlessFrom, ClosedFrom, StandsShown}
-use Rattle.cases.specs.Sharp.{the_choice, unchanged, less_one, nought, positive, table_with, inner_by, inners_are, at, place_with, round, another, elsewhere, round_inner, both_inner, setting, lowering, countdown, InnerRun, shown_once, shown_and_cleared, SharpPromises}
+use Rattle.cases.specs.Sharp.{the_choice, unchanged, less_one, nought, table_with, inner_by, inners_are, at, place_with, round, another, elsewhere, round_inner, both_inner, setting, lowering, countdown, InnerRun, shown_once, shown_and_cleared, SharpPromises}
 use Rattle.cases.proofs.EndlessRuns.{always-fits}
 use Rattle.cases.proofs.SamplesWorked.{computing}
 use Rattle.cases.proofs.Standing.{shown-stands, stands-shown}

@@ -1,6 +1,6 @@
 -- What each call answers. A call makes its tests in rising number of their faults; what a call does to the model stands in
 -- a file of its own.
-use Rattle.std.specs.Prelude.{ℕ, zero, suc, ◌+◌, ◌*◌, Bool, true, cond, ◌&&◌, List, [], ◌∷◌, map, length, take, ℤ, pos, Some, None, Ok, Err, Option, Result, ◌==◌, nat_le, nat_lt, slice_index_or}
+use Rattle.std.specs.Prelude.{ℕ, zero, suc, ◌+◌, ◌*◌, Bool, true, cond, ◌&&◌, List, [], ◌∷◌, map, length, take, ℤ, pos, Some, None, Ok, Err, Option, ◌==◌, nat_le, nat_lt, slice_index_or}
 use Rattle.rows.specs.declared.fault.Fault.{Fault}
 use Rattle.rows.specs.declared.fault.FaultKind.{FaultKind}
 use Rattle.rows.specs.declared.fault.FaultKind.TheVariants.{TableVersion, WitnessVersion, AdmitWithoutTable, BeginWithoutTable, BeginValues, InitialRowUnmet, AdvanceWithoutState, AdvanceTransition, AdvanceChoices, GuardRowUnmet, NewValueTooLarge, StepsExhausted, AddWithoutWitness, AddToUnknown, AddedNumbers, AddedRowsFull, ProveWithoutWitness, NoSuchObligation, SheetTooShort, VerdictWithoutTable, VerdictWithoutWitness, VerdictWithoutState, PlaceUnlisted, ConditionRowUnmet, ConsecutionOpen, RestrictionOpen, GuardOpen, ExitOpen, UnrollNotAccepted, UnrollTooLong, UnrollTableTooShort}
@@ -11,7 +11,7 @@ use Rattle.rows.specs.Limits.{columns, magnitude_of, within}
 use Rattle.methods.specs.Questions.{Meaning, question}
 use Rattle.records.specs.declared.shape.Shape.{Shape}
 use Rattle.records.specs.Limits.{most_values, most_choices, most_conditions, most_restrictions}
-use Rattle.records.specs.Records.{TransitionData, TableData, PlaceData, InnerData, WitnessData, shape_of}
+use Rattle.records.specs.Records.{TransitionData, TableData, WitnessData, shape_of}
 use Rattle.records.specs.Slots.{over_values, slot_of}
 use Rattle.formats.specs.Pieces.{each, fault_at}
 use Rattle.formats.specs.Tables.{open_says}

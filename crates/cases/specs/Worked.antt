@@ -1,6 +1,6 @@
 -- What each call does to the model, what it answers, and the model after a list of calls. A call that is refused does
 -- nothing.
-use Rattle.std.specs.Prelude.{ℕ, ◌+◌, cond, List, [], ◌∷◌, ◌++◌, ℤ, Some, None, Ok, Err, Option, Result, ◌==◌}
+use Rattle.std.specs.Prelude.{ℕ, ◌+◌, cond, List, [], ◌∷◌, ◌++◌, ℤ, Some, None, Ok, Err, Option, ◌==◌}
 use Rattle.rows.specs.declared.numbers.Numbers.{Numbers}
 use Rattle.rows.specs.Faults.{Said}
 use Rattle.records.specs.Limits.{most_values}

@@ -1,4 +1,5 @@
 // The model of a case and the guarantee on it.
+#![tactic(auto)]
 
 pub mod dossiers;
 pub mod guarantee;

@@ -1,5 +1,5 @@
 -- A layer over a method that never says yes never says yes.
-use Rattle.std.proofs.Common.{◌≡◌, ℕ, ◌<◌, ◌≤◌, ◌⊎◌, List, length, take, Ok, Err, sym, refl, ap, ◌∙◌, inl, inr}
+use Rattle.std.proofs.Common.{◌≡◌, ℕ, List, length, take, Ok, sym, ◌∙◌, inl, inr}
 use Rattle.std.proofs.lemmas.Bool.{cases_lt}
 use Rattle.rows.specs.declared.fault.FaultKind.TheVariants.{TooManyFacts}
 use Rattle.rows.specs.declared.numbers.Numbers.{Numbers}

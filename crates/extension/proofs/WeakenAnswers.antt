@@ -1,8 +1,6 @@
 -- A question to the layer that lowers the goal's bound: what each way through its code answers, and when it is yes.
-use Rattle.std.proofs.Common.{◌≡◌, ℕ, ◌-◌, ◌<◌, ◌≤◌, true, false, cond, eqb, ltb, ◌⊎◌, List, length, get_or, take, drop, ℤ, pos, ◌≤ℤ◌, Ok, Err, Result, sym, refl, ap, ◌∙◌, inl, inr, arith}
-use lib.Signed.{le_z}
+use Rattle.std.proofs.Common.{◌≡◌, ℕ, ◌-◌, ◌<◌, ◌≤◌, cond, eqb, ltb, List, length, get_or, take, drop, Ok, Err, Result, sym, refl, ap, ◌∙◌, inl, inr}
 use Rattle.std.proofs.lemmas.List.{take_rest}
-use Rattle.std.proofs.lemmas.Int.{ints}
 use Rattle.std.proofs.lemmas.Bool.{le-leb, lt-ltb, and_from, cond-true}
 use Rattle.rows.specs.declared.fault.Fault.{Fault}
 use Rattle.rows.specs.declared.fault.FaultKind.TheVariants.{LayerByte}
@@ -16,7 +14,7 @@ use Rattle.methods.specs.OpeningLaws.{yes-row}
 use Rattle.methods.specs.Openings.{row_says}
 use Rattle.methods.specs.Questions.{Question, question, Meaning, asked}
 use Rattle.methods.proofs.Asked.{asked-within}
-use Rattle.extension.specs.Weakens.{lower_from, lowered, slack_tests, stronger, weaken_own, weaken_says, WeakenYes}
+use Rattle.extension.specs.Weakens.{lower_from, lowered, slack_tests, weaken_own, weaken_says, WeakenYes}
 use Rattle.extension.specs.WeakensAsk.{own_asked}
 use Rattle.extension.proofs.OrderTests.{le_test}
 

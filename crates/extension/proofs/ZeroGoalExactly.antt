@@ -1,7 +1,5 @@
 -- The method for goals that every point meets says yes exactly when all its conditions hold.
-use Rattle.std.proofs.Common.{◌≡◌, true, not, ℤ, pos, ◌≤ℤ◌, Ok, sym, ap, arith}
-use lib.Signed.{le_z}
-use Rattle.std.proofs.lemmas.Int.{ints}
+use Rattle.std.proofs.Common.{◌≡◌, not, Ok, sym, ap}
 use Rattle.std.proofs.lemmas.Bool.{eq-eqb}
 use Rattle.rows.specs.declared.fault.FaultKind.TheVariants.{ColumnDiffers}
 use Rattle.rows.specs.Faults.{unless_found}

@@ -1,7 +1,7 @@
 -- Proofs, and nothing to believe: the laws of the layer that lowers the goal's bound, over any lawful method. They stand
 -- here since the layer's contract hands them on, and a contract may name no file of proofs/.
-use Rattle.std.specs.Prelude.{◌≡◌, ℕ, ◌<◌, ◌≤◌, true, false, ◌⊎◌, List, length, drop, ℤ, pos, ◌-ℤ◌, ◌≤ℤ◌, Ok, Err, int_le, nat_le, refl}
-use Rattle.std.proofs.Common.{sym, ap, subst, ◌∙◌, inl, inr, arith}
+use Rattle.std.specs.Prelude.{◌≡◌, ℕ, ◌≤◌, true, false, List, length, drop, ℤ, pos, ◌-ℤ◌, ◌≤ℤ◌, Ok, Err, int_le, nat_le, refl}
+use Rattle.std.proofs.Common.{sym, ap, inl, inr, arith}
 use Rattle.std.proofs.lemmas.List.{length-drop}
 use Rattle.std.proofs.lemmas.Int.{ints}
 use Rattle.std.proofs.lemmas.Bool.{and_parts, leb-true}
@@ -12,16 +12,15 @@ use Rattle.rows.specs.declared.limits.Limit.TheVariants.{WrittenNumber}
 use Rattle.rows.specs.declared.numbers.Numbers.{Numbers}
 use Rattle.rows.specs.Faults.{Said, fault_of, ◌and_then◌, check, moved}
 use Rattle.rows.specs.Limits.{columns, magnitude_of}
-use Rattle.rows.specs.Shapes.{dot, Meets, MeetsAll}
-use Rattle.rows.proofs.Chains.{never, both, check-true, either, check-first, found-place}
-use Rattle.methods.specs.Cuts.{HandedYes}
+use Rattle.rows.specs.Shapes.{dot, Meets}
+use Rattle.rows.proofs.Chains.{never, both, check-true, either, found-place}
 use Rattle.methods.specs.LayerLaws.{moved-yes, moved-place, lower-place, by_first-cases}
 use Rattle.methods.specs.Layers.{first_byte_of, by_first, from}
 use Rattle.methods.specs.OpeningLaws.{row-yes}
 use Rattle.methods.specs.Openings.{row_says}
 use Rattle.methods.specs.Questions.{Question, Meaning, Lawful}
 use Rattle.extension.specs.Orders.{le_from}
-use Rattle.extension.specs.Weakens.{slack_from, lower_from, slack, slack_says, lowered, slack_tests, stronger, weaken_own, weaken_says, WeakenOwnYes, WeakenYes}
+use Rattle.extension.specs.Weakens.{slack_from, lower_from, slack, slack_says, lowered, slack_tests, stronger, weaken_own, weaken_says, WeakenYes}
 
 -- what a yes of the tests says
 pub slack-yes : (certificate : List ℕ) → slack_tests certificate ≡ Ok tt →

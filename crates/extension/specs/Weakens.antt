@@ -31,11 +31,11 @@ lowered goal certificate = record { coefficients = goal.coefficients; bound = go
 abbrev pub slack_says : ℤ → Said
 slack_says n = check (int_le (pos 0) n && int_le n (pos (magnitude_of WrittenNumber))) (fault_of LayerRowTooLarge slack_from 0 columns)
 
--- the tests on the way to it: the number is there, and in range
+-- the tests on the way to it: the number is there, and lies between 0 and the greatest written number
 unfoldable pub slack_tests : List ℕ → Said
 slack_tests certificate =
     check (nat_le lower_from (length certificate)) (fault_of CertificateLength 0 0 0)
-    and_then slack_says (slack certificate)
+    and_then check (int_le (pos 0) (slack certificate) && int_le (slack certificate) (pos (magnitude_of WrittenNumber))) (fault_of LayerRowTooLarge slack_from 0 columns)
 
 -- the stronger goal, where all tests are passed, else the first fault
 abbrev pub LoweredFrom : Numbers → List ℕ → Result Numbers Fault → Type 0

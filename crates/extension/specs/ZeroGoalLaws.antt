@@ -1,13 +1,13 @@
 -- Proofs, and nothing to believe: the laws of the method for goals that every point meets. They stand here since the
 -- method's contract hands them on, and a contract may name no file of proofs/.
-use Rattle.std.specs.Prelude.{◌≡◌, ℕ, zero, suc, ◌<◌, ◌≤◌, true, false, List, length, ℤ, pos, ◌+ℤ◌, ◌*ℤ◌, ◌≤ℤ◌, Ok, Err, ◌==◌, int_le, slice_index_or, refl}
+use Rattle.std.specs.Prelude.{◌≡◌, ℕ, zero, suc, ◌<◌, ◌≤◌, List, length, ℤ, pos, ◌+ℤ◌, ◌*ℤ◌, ◌≤ℤ◌, Ok, Err, ◌==◌, int_le, slice_index_or, refl}
 use Rattle.std.proofs.Common.{sym, ap, subst, ◌∙◌, arith}
 use Rattle.std.proofs.lemmas.Int.{ints}
 use Rattle.std.proofs.lemmas.Bool.{eqb-true, not-false}
 use Rattle.rows.specs.declared.fault.Fault.{Fault}
 use Rattle.rows.specs.declared.fault.FaultKind.TheVariants.{CertificateLength, ColumnDiffers, BoundNotShown}
 use Rattle.rows.specs.declared.numbers.Numbers.{Numbers}
-use Rattle.rows.specs.Faults.{Said, fault_of, ◌and_then◌, check, unless_found}
+use Rattle.rows.specs.Faults.{fault_of, ◌and_then◌, check, unless_found}
 use Rattle.rows.specs.Firsts.{first_below}
 use Rattle.rows.specs.Limits.{columns}
 use Rattle.rows.specs.Shapes.{dot_to, dot, Meets}

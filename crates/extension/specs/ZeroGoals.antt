@@ -1,5 +1,5 @@
 -- The method for goals that every point meets: coefficients that are all zero, and a bound of at least zero.
-use Rattle.std.specs.Prelude.{◌≡◌, ℕ, ◌<◌, Bool, not, List, length, ℤ, pos, ◌≤ℤ◌, ◌==◌, int_le, slice_index_or}
+use Rattle.std.specs.Prelude.{◌≡◌, ℕ, ◌<◌, Bool, not, List, length, pos, ◌≤ℤ◌, ◌==◌, int_le, slice_index_or}
 use Rattle.rows.specs.declared.fault.FaultKind.TheVariants.{CertificateLength, ColumnDiffers, BoundNotShown}
 use Rattle.rows.specs.declared.numbers.Numbers.{Numbers}
 use Rattle.rows.specs.Faults.{Said, fault_of, ◌and_then◌, check, unless_found}

@@ -1,5 +1,6 @@
 // A buyer's side: a method and a layer of its own, a method that never says yes, and stacks of them with the product's,
 // written against the public parts of `rows` and `methods` alone.
+#![tactic(auto)]
 
 pub mod never;
 pub mod stacks;

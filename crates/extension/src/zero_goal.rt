@@ -26,7 +26,8 @@ fn is_used(goal: &Numbers, column: usize) -> bool
 
 // The lowest column in which it is not.
 fn first_used(goal: &Numbers) -> Option<u8>
-    ensures { IsFirst (uses goal.now) columns result }
+    ensures value { result ≡ first_below (uses goal.now) columns }
+    ensures first { IsFirst (uses goal.now) columns result }
 {
     for column in 0..COLUMNS {
         if is_used(goal, column) {

@@ -1,5 +1,5 @@
 -- The place of a fault is at most the bytes' length: test by test, in their order.
-use Rattle.std.proofs.Common.{◌≡◌, ℕ, zero, suc, ◌+◌, ◌-◌, ◌*◌, ◌<◌, ◌≤◌, Bool, true, false, cond, ◌&&◌, eqb, ltb, leb, ◌⊎◌, List, length, drop, Some, None, Ok, Err, Option, unwrap_or, sym, refl, ap, ◌∙◌, subst, inl, inr, arith, length-take}
+use Rattle.std.proofs.Common.{◌≡◌, ℕ, zero, suc, ◌+◌, ◌*◌, ◌<◌, ◌≤◌, Bool, true, false, cond, ◌&&◌, eqb, ltb, leb, List, length, drop, Some, None, Ok, Err, Option, sym, refl, ap, subst, arith, length-take}
 use Rattle.std.proofs.lemmas.Bool.{leb-true, ltb-true, eqb-true, and_parts}
 use Rattle.rows.specs.declared.fault.Fault.{Fault}
 use Rattle.rows.specs.declared.fault.FaultKind.{FaultKind}
@@ -15,7 +15,7 @@ use Rattle.records.specs.Limits.{most_values, most_choices, most_initial, most_g
 use Rattle.formats.specs.Pieces.{byte_at, each_says, fault_at, rest_from, version, pieces_from, piece_at, piece_end, piece_says, reach_says, long_says, count_says, above_says, version_says}
 use Rattle.formats.specs.Placed.{Placed}
 use Rattle.formats.specs.StoredRows.{slot_place, row_at, row_says, rows_say, unless_written}
-use Rattle.records.specs.Slots.{number_bytes, over_values, stride, slot_of}
+use Rattle.records.specs.Slots.{over_values, stride, slot_of}
 use Rattle.formats.specs.Tables.{values_from, choices_from, start_from, initial_count_from, initial_from, heading_shape, heading_rest, heading_length, heading_says, number_from, left_from, reached_from, guard_count_from, guard_from, updates_from, transition_length, transition_says, next_says, transitions_say, content_says, table_says, memory_says, open_says}
 use Rattle.formats.proofs.PieceTests.{found-ends}
 use Rattle.formats.proofs.RowItems.{slot-within, slot-place, stride-within}

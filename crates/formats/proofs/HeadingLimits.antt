@@ -1,12 +1,12 @@
 -- What the tests of a heading tell of its counts.
-use Rattle.std.proofs.Common.{◌≡◌, ℕ, ◌+◌, ◌≤◌, Bool, true, ◌&&◌, leb, List, Ok, Err, sym, refl, ap, ◌∙◌}
+use Rattle.std.proofs.Common.{◌≡◌, ℕ, ◌+◌, ◌≤◌, Bool, true, ◌&&◌, leb, List, Ok}
 use Rattle.std.proofs.lemmas.Bool.{and_parts, leb-true}
 use Rattle.rows.specs.declared.fault.Fault.{Fault}
 use Rattle.rows.specs.declared.fault.FaultKind.TheVariants.{TableLength, TableCount}
 use Rattle.rows.specs.Faults.{Said, ◌and_then◌, check}
 use Rattle.rows.proofs.Chains.{both, check-true}
 use Rattle.records.specs.Limits.{most_values, most_choices}
-use Rattle.formats.specs.Pieces.{byte_at, fault_at, rest_from, reach_says, count_says}
+use Rattle.formats.specs.Pieces.{byte_at, fault_at, rest_from, reach_says}
 use Rattle.formats.specs.Tables.{values_from, choices_from, heading_says}
 
 -- a yes of a chain is one of its second test, and of the rest behind that

@@ -1,10 +1,9 @@
 -- Where the search for a piece stops, and what is found; what tests over a range give; what is given after tests.
-use Rattle.std.proofs.Common.{◌≡◌, ℕ, zero, suc, ◌+◌, ◌-◌, ◌<◌, ◌≤◌, ◌⊎◌, List, length, take, drop, Ok, Err, Result, sym, refl, ap, ◌∙◌, inl, inr, add-one, arith}
+use Rattle.std.proofs.Common.{◌≡◌, ℕ, zero, suc, ◌+◌, ◌<◌, ◌≤◌, List, length, Ok, Err, refl, ap, ◌∙◌, inl, inr, add-one, arith}
 use Rattle.std.proofs.lemmas.Bool.{le-leb, lt-leb, leb-true, cases_eq}
 use Rattle.rows.specs.declared.fault.Fault.{Fault}
 use Rattle.rows.specs.declared.fault.FaultKind.{FaultKind}
-use Rattle.rows.specs.Bytes.{word_at}
-use Rattle.rows.specs.Faults.{Said, ◌and_then◌, check}
+use Rattle.rows.specs.Faults.{Said}
 use Rattle.rows.proofs.Chains.{stops, goes, checked, failed, both, check-true}
 use Rattle.formats.specs.Pieces.{each_says, giving, fault_at, rest_from, piece_end, piece_says}
 

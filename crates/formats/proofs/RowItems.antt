@@ -1,11 +1,11 @@
 -- Rows as they stand in bytes: an offset that stops at the largest its type holds, and the test of a row's numbers.
-use Rattle.std.proofs.Common.{◌≡◌, ℕ, ◌+◌, ◌-◌, ◌*◌, ◌^◌, ◌<◌, ◌≤◌, min, not, ltb, ◌⊎◌, List, length, get_or, Some, None, Ok, Err, Option, unwrap_or, sym, refl, ap, ◌∙◌, inl, inr, arith}
+use Rattle.std.proofs.Common.{◌≡◌, ℕ, ◌+◌, ◌-◌, ◌*◌, ◌^◌, ◌<◌, ◌≤◌, min, not, ltb, List, length, Some, None, Ok, Err, Option, unwrap_or, sym, refl, ap, ◌∙◌, inl, inr, arith}
 use Rattle.std.proofs.lemmas.Nat.{mul-le}
 use Rattle.std.proofs.lemmas.List.{get_or_past}
 use Rattle.std.proofs.lemmas.Bool.{cases_lt, cond_both, ltb-true}
 use Rattle.rows.specs.declared.fault.FaultKind.{FaultKind}
 use Rattle.rows.specs.declared.limits.Limit.TheVariants.{WrittenNumber}
-use Rattle.rows.specs.Bytes.{word_at, long_at, signed, number_at}
+use Rattle.rows.specs.Bytes.{long_at, signed, number_at}
 use Rattle.rows.specs.Limits.{columns, items, magnitude_of}
 use Rattle.rows.specs.Made.{FirstOver}
 use Rattle.rows.specs.Shapes.{Within, first_beyond}

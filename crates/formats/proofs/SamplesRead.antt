@@ -2,7 +2,7 @@
 use Rattle.std.proofs.Common.{◌≡◌, Ok, refl}
 use Rattle.rows.specs.Shapes.{first_beyond}
 use Rattle.formats.specs.Pieces.{piece_says}
-use Rattle.records.specs.Records.{TableData, WitnessData, shape_of}
+use Rattle.records.specs.Records.{shape_of}
 use Rattle.formats.specs.Samples.{sample_table_bytes, sample_table, sample_witness_bytes, sample_witness}
 use Rattle.formats.specs.StoredRows.{item_at, row_says}
 use Rattle.formats.specs.Tables.{heading_says, transition_says, transitions_at, transitions_say, table_at, content_says, read_table}

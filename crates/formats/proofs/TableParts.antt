@@ -1,5 +1,5 @@
 -- What the tests of a table tell of its parts.
-use Rattle.std.proofs.Common.{◌≡◌, ℕ, ◌≤◌, List, length, Ok, Err, sym, refl, ap, ◌∙◌}
+use Rattle.std.proofs.Common.{◌≡◌, ℕ, ◌≤◌, List, length, Ok}
 use Rattle.rows.specs.declared.fault.FaultKind.TheVariants.{TableLength}
 use Rattle.rows.proofs.Chains.{both}
 use Rattle.records.specs.Limits.{most_transitions}

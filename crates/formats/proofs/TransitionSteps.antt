@@ -1,14 +1,13 @@
 -- The pieces of transitions, one step of reading at a time.
-use Rattle.std.proofs.Common.{◌≡◌, ℕ, zero, suc, ◌+◌, ◌-◌, ◌<◌, ◌≤◌, Bool, true, false, cond, ltb, List, [], ◌∷◌, length, Ok, Err, sym, refl, ap, ◌∙◌, subst, arith}
+use Rattle.std.proofs.Common.{◌≡◌, ℕ, zero, suc, ◌+◌, ◌-◌, ◌<◌, ◌≤◌, true, ltb, List, [], ◌∷◌, length, Ok, Err, sym, refl, ap, ◌∙◌, arith}
 use Rattle.std.proofs.lemmas.Bool.{lt-ltb, le-ltb, cond-true, cond-false, ltb-true}
 use Rattle.rows.specs.declared.fault.Fault.{Fault}
 use Rattle.rows.specs.declared.fault.FaultKind.TheVariants.{TableLength, TableCount}
 use Rattle.rows.specs.Bytes.{word_at}
-use Rattle.rows.specs.Faults.{Said, ◌and_then◌, check}
+use Rattle.rows.specs.Faults.{◌and_then◌}
 use Rattle.rows.proofs.Chains.{stops, goes, both}
 use Rattle.records.specs.declared.shape.Shape.{Shape}
 use Rattle.formats.specs.Pieces.{fault_at, piece_at, piece_end, piece_says, reach_says}
-use Rattle.records.specs.Records.{TransitionData}
 use Rattle.formats.specs.Tables.{number_from, guard_count_from, transition_at, transition_says, next_says, transitions_at, transitions_say}
 use Rattle.formats.proofs.HeadingLimits.{second}
 use Rattle.formats.proofs.PieceTests.{found-ends}

@@ -1,12 +1,12 @@
 -- Walking over pieces, one step at a time: the walk and the list of pieces do not depend on how many pieces they allow
 -- for, as long as these are enough.
-use Rattle.std.proofs.Common.{◌≡◌, ℕ, zero, suc, ◌+◌, ◌-◌, ◌<◌, ◌≤◌, Bool, true, false, cond, ltb, ◌⊎◌, List, [], ◌∷◌, length, Ok, Err, sym, refl, ap, ◌∙◌, inl, inr, arith}
+use Rattle.std.proofs.Common.{◌≡◌, ℕ, zero, suc, ◌+◌, ◌<◌, ◌≤◌, cond, ltb, List, [], ◌∷◌, length, Ok, Err, sym, refl, ap, ◌∙◌, inl, inr, arith}
 use Rattle.std.proofs.lemmas.Bool.{lt-ltb, le-ltb, cond-true, cond-false, cases_lt}
 use Rattle.rows.specs.declared.fault.Fault.{Fault}
 use Rattle.rows.specs.declared.fault.FaultKind.{FaultKind}
 use Rattle.rows.specs.Faults.{Said, ◌and_then◌}
 use Rattle.rows.proofs.Chains.{stops, goes}
-use Rattle.formats.specs.Pieces.{piece_at, piece_end, piece_says}
+use Rattle.formats.specs.Pieces.{piece_end, piece_says}
 use Rattle.formats.specs.Walks.{PieceData, piece_data, left, pieces_at, walk_says}
 
 module _ (bytes : List ℕ) where

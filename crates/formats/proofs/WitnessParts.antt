@@ -1,5 +1,5 @@
 -- What the tests of the pieces of a witness tell of them.
-use Rattle.std.proofs.Common.{◌≡◌, ℕ, ◌+◌, ◌-◌, ◌*◌, ◌<◌, ◌≤◌, Bool, true, ◌&&◌, eqb, ltb, leb, List, length, Ok, Err, sym, refl, ap, ◌∙◌}
+use Rattle.std.proofs.Common.{◌≡◌, ℕ, ◌+◌, ◌<◌, ◌≤◌, Bool, true, ◌&&◌, eqb, ltb, leb, List, length, Ok}
 use Rattle.std.proofs.lemmas.Bool.{ltb-true, leb-true, eqb-true, and_parts}
 use Rattle.rows.specs.declared.fault.Fault.{Fault}
 use Rattle.rows.specs.declared.fault.FaultKind.TheVariants.{WitnessVersion, WitnessLength, WitnessCount}
@@ -7,10 +7,10 @@ use Rattle.rows.specs.Faults.{Said, ◌and_then◌, check}
 use Rattle.rows.proofs.Chains.{both, check-true}
 use Rattle.records.specs.declared.shape.Shape.{Shape}
 use Rattle.records.specs.Limits.{most_places, most_inners, most_conditions, most_entries}
-use Rattle.formats.specs.Pieces.{byte_at, fault_at, rest_from, reach_says, long_says, count_says, version_says}
+use Rattle.formats.specs.Pieces.{byte_at, fault_at, rest_from, version_says}
 use Rattle.records.specs.Records.{TransitionData}
 use Rattle.formats.specs.Walks.{PieceData}
-use Rattle.formats.specs.Witnesses.{kind_from, count_from, plan_count_from, plan_from, entries, entry_from, place_length, place_says, inner_says, kind_says, named_in, numbers_in, witness_at, pieces_of, pieces_say, references_say, content_says, witness_says}
+use Rattle.formats.specs.Witnesses.{kind_from, count_from, plan_count_from, entries, place_length, place_says, inner_says, kind_says, named_in, numbers_in, witness_at, pieces_of, pieces_say, references_say, content_says, witness_says}
 
 -- a yes of a chain is one of its first test, and of the rest
 pub head : (t : Bool) (f : Fault) (d : Said) → (check t f and_then d) ≡ Ok tt → (t ≡ true) × (d ≡ Ok tt)

@@ -15,7 +15,7 @@ use Rattle.formats.specs.Pieces.{byte_at, fault_at, rest_from, version, pieces_f
 use Rattle.formats.specs.Placed.{Placed}
 use Rattle.formats.specs.StoredRows.{row_says, rows_say}
 use Rattle.formats.specs.Walks.{PieceData, piece_data, left, walk_says}
-use Rattle.formats.specs.Witnesses.{last_of, place_kind, inner_kind, kind_from, number_from, count_from, rows_from, is_place, plan_count_from, plan_from, entries, entry_stride, test_from, tested_say, place_length, place_says, choices_from, inner_length, inner_says, kind_says, PlacePart, InnerPart, part_of, within, Progress, begun, further, body_by, part_says, pieces_of, pieces_say, witness_at, numbers_in, Named, inner_fits, entry_test, plan_says, reference_by, references_say, number_of, named_in, content_says, witness_says, witness_memory_says, admit_says}
+use Rattle.formats.specs.Witnesses.{last_of, place_kind, inner_kind, kind_from, number_from, count_from, rows_from, is_place, plan_count_from, plan_from, entries, entry_stride, test_from, tested_say, place_length, place_says, choices_from, inner_length, inner_says, kind_says, PlacePart, InnerPart, part_of, Progress, begun, further, body_by, part_says, pieces_of, pieces_say, witness_at, numbers_in, Named, inner_fits, entry_test, plan_says, reference_by, references_say, number_of, named_in, content_says, witness_says, witness_memory_says, admit_says}
 use Rattle.formats.proofs.FaultPlaces.{placed-then, placed-ok, placed-check, placed-each, placed_row, placed-rows, placed-reach, placed-long, placed-count, placed-above, placed-piece, placed-where, rest-within}
 use Rattle.formats.proofs.PiecesWritten.{each_piece, PieceWithin, walk-each, walk-chain, chain-within}
 use Rattle.formats.proofs.RowItems.{stride-within}

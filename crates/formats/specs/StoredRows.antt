@@ -1,5 +1,5 @@
 -- Rows and expressions as they stand in bytes: which number is that of which column, their values, and their tests.
-use Rattle.std.specs.Prelude.{ℕ, ◌+◌, ◌-◌, ◌*◌, Bool, cond, ltb, List, length, ℤ, pos, Some, None, Ok, Err, Option, Result}
+use Rattle.std.specs.Prelude.{ℕ, ◌+◌, ◌*◌, List, ℤ, pos, Some, None, Ok, Err, Option}
 use Rattle.rows.specs.declared.fault.FaultKind.{FaultKind}
 use Rattle.rows.specs.declared.limits.Limit.TheVariants.{WrittenNumber}
 use Rattle.rows.specs.declared.numbers.Numbers.{Numbers}

@@ -1,14 +1,13 @@
 -- Reading a table: from bytes to the table or the first fault. What the bytes say is one definition, and the tests, in
 -- their order, another.
-use Rattle.std.specs.Prelude.{ℕ, zero, suc, ◌+◌, ◌-◌, ◌*◌, Bool, cond, ◌&&◌, List, [], ◌∷◌, length, Ok, Err, Result, nat_le, nat_lt}
+use Rattle.std.specs.Prelude.{ℕ, zero, suc, ◌+◌, ◌*◌, cond, ◌&&◌, List, [], ◌∷◌, length, Ok, Result, nat_le, nat_lt}
 use Rattle.rows.specs.declared.fault.Fault.{Fault}
-use Rattle.rows.specs.declared.fault.FaultKind.{FaultKind}
 use Rattle.rows.specs.declared.fault.FaultKind.TheVariants.{TableVersion, TableLength, TableCount, TableNumber, TableWritten}
 use Rattle.rows.specs.Bytes.{word_at}
 use Rattle.rows.specs.Faults.{Said, ◌and_then◌, check}
 use Rattle.records.specs.declared.shape.Shape.{Shape}
 use Rattle.records.specs.Limits.{most_values, most_choices, most_initial, most_guards, most_transitions, most_places, most_inners}
-use Rattle.formats.specs.Pieces.{byte_at, fault_at, rest_from, piece_end, piece_at, piece_says, reach_says, long_says, count_says, above_says, giving, pieces_from, version_says}
+use Rattle.formats.specs.Pieces.{byte_at, fault_at, piece_end, piece_at, piece_says, reach_says, long_says, count_says, above_says, giving, pieces_from, version_says}
 use Rattle.records.specs.Records.{HeadingData, TransitionData, TableData}
 use Rattle.formats.specs.StoredRows.{rows_at, rows_say}
 use Rattle.records.specs.Slots.{over_values, stride}

@@ -1,6 +1,6 @@
 -- What a table and a witness have to be: counts within their limits, numbers that rise, written numbers, and a witness
 -- that fits its table.
-use Rattle.std.specs.Prelude.{◌≡◌, ℕ, ◌+◌, ◌<◌, ◌≤◌, true, List, [], ◌∷◌, map, length, ℤ, pos, Some, slice_index_or}
+use Rattle.std.specs.Prelude.{◌≡◌, ℕ, ◌+◌, ◌<◌, ◌≤◌, true, List, [], ◌∷◌, map, length, pos, Some, slice_index_or}
 use Rattle.std.specs.List.{AllByRecursion as All}
 use Rattle.rows.specs.declared.limits.Limit.TheVariants.{WrittenNumber}
 use Rattle.rows.specs.declared.numbers.Numbers.{Numbers}

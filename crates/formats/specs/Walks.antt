@@ -1,6 +1,6 @@
 -- Walking over the pieces of some bytes from the front. A piece takes a byte at least, so there are no more pieces than
 -- bytes.
-use Rattle.std.specs.Prelude.{ℕ, zero, suc, ◌+◌, ◌-◌, Bool, cond, List, [], ◌∷◌, length, Ok, Err, nat_lt}
+use Rattle.std.specs.Prelude.{ℕ, zero, suc, ◌-◌, cond, List, [], ◌∷◌, length, Ok, nat_lt}
 use Rattle.rows.specs.declared.fault.FaultKind.{FaultKind}
 use Rattle.rows.specs.Faults.{Said, ◌and_then◌}
 use Rattle.formats.specs.Pieces.{piece_at, piece_end, piece_says}

@@ -1,6 +1,5 @@
 -- From what a method of ours means to what a question with a sheet and a count answers.
-use Rattle.std.proofs.Common.{◌≡◌, ℕ, ◌-◌, ◌<◌, ◌≤◌, true, false, cond, leb, ◌⊎◌, List, length, take, Ok, Err, sym, refl, ap, ◌∙◌, subst, inl, inr, arith}
-use native.Mathlib.Nat.{sub-zero}
+use Rattle.std.proofs.Common.{◌≡◌, ℕ, ◌-◌, ◌<◌, ◌≤◌, true, leb, List, length, take, Ok, Err, sym, ap, ◌∙◌, subst, inl, inr, arith}
 use Rattle.std.proofs.lemmas.List.{length-take-le}
 use Rattle.std.proofs.lemmas.Bool.{le-leb, lt-leb, cases_lt, cond-true, cond-false}
 use Rattle.rows.specs.declared.fault.Fault.{Fault}
@@ -8,8 +7,7 @@ use Rattle.rows.specs.declared.fault.FaultKind.TheVariants.{TooManyFacts}
 use Rattle.rows.specs.declared.numbers.Numbers.{Numbers}
 use Rattle.rows.specs.Faults.{Said, fault_of}
 use Rattle.rows.proofs.Chains.{stops, goes, checked, never}
-use Rattle.methods.specs.Openings.{opening, opened, Opened}
-use Rattle.methods.specs.OpeningLaws.{opening-yes}
+use Rattle.methods.specs.Openings.{opening, opened}
 use Rattle.methods.specs.Questions.{Question, question, Meaning, asked, YesExactly}
 
 -- `&sheet[0..count]`

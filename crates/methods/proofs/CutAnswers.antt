@@ -1,5 +1,5 @@
 -- The own part of a cut: what each way through its code answers.
-use Rattle.std.proofs.Common.{◌≡◌, ℕ, ◌+◌, ◌-◌, ◌*◌, ◌<◌, ◌≤◌, ◌&&◌, ltb, List, [], ◌∷◌, ◌++◌, length, take, drop, Ok, Err, sym, refl, ap, ◌∙◌, subst, arith}
+use Rattle.std.proofs.Common.{◌≡◌, ℕ, ◌+◌, ◌-◌, ◌*◌, ◌≤◌, ◌&&◌, ltb, List, [], ◌∷◌, ◌++◌, length, take, drop, Ok, Err, sym, ap, ◌∙◌, subst}
 use Rattle.std.proofs.lemmas.List.{take_rest, length-take-le}
 use Rattle.rows.specs.declared.fault.Fault.{Fault}
 use Rattle.rows.specs.declared.fault.FaultKind.TheVariants.{NoRoomForFact}
@@ -8,9 +8,8 @@ use Rattle.rows.specs.Faults.{Said, fault_of, check, moved}
 use Rattle.rows.proofs.Chains.{stops, goes}
 use Rattle.methods.specs.CutLaws.{cut-passed}
 use Rattle.methods.specs.Cuts.{cut_weights_from, cut_end, cut_row, cut_tests, cut_own}
-use Rattle.methods.specs.CutsAsk.{CutMade}
 use Rattle.methods.specs.Openings.{most_facts}
-use Rattle.methods.specs.Questions.{Question, question, Meaning}
+use Rattle.methods.specs.Questions.{question, Meaning}
 use Rattle.methods.proofs.Asked.{front}
 use Rattle.methods.proofs.LayerAnswers.{room-count}
 

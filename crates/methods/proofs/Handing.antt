@@ -1,11 +1,11 @@
 -- Asking the method below: its faults can be moved, one more fact stands behind the others, and those stay.
-use Rattle.std.proofs.Common.{◌≡◌, ℕ, ◌+◌, ◌^◌, ◌<◌, ◌≤◌, cond, leb, List, [], ◌∷◌, ◌++◌, length, take, set, Ok, Err, sym, refl, ap, ◌∙◌, subst, arith}
+use Rattle.std.proofs.Common.{◌≡◌, ℕ, ◌+◌, ◌^◌, ◌<◌, ◌≤◌, leb, List, [], ◌∷◌, ◌++◌, length, take, set, Ok, Err, sym, refl, ap, ◌∙◌, arith}
 use Rattle.std.proofs.lemmas.List.{length-set, take_more_set, take-take, take-set}
 use Rattle.std.proofs.lemmas.Bool.{le-leb, cond-true}
 use Rattle.rows.specs.declared.fault.Fault.{Fault}
 use Rattle.rows.specs.declared.numbers.Numbers.{Numbers}
 use Rattle.rows.specs.Faults.{Said, Movable, moved}
-use Rattle.methods.specs.Questions.{Question, question, Meaning, Lawful, asked}
+use Rattle.methods.specs.Questions.{question, Meaning, Lawful, asked}
 
 movable-from : (offset n : ℕ) (said : Said) → ((f : Fault) → said ≡ Err f → f.place ≤ n) → n + offset < 2 ^ 64 → Movable offset said
 movable-from offset n (Ok u) h l = tt

@@ -1,5 +1,5 @@
 -- The row of a split, and its own part: what each way through its code answers.
-use Rattle.std.proofs.Common.{◌≡◌, ℕ, ◌+◌, ◌-◌, ◌*◌, ◌<◌, ◌≤◌, not, ◌&&◌, ltb, List, [], ◌∷◌, ◌++◌, length, take, drop, Ok, Err, sym, refl, ap, ◌∙◌, subst, arith}
+use Rattle.std.proofs.Common.{◌≡◌, ℕ, ◌-◌, ◌<◌, ◌≤◌, not, ◌&&◌, ltb, List, [], ◌∷◌, ◌++◌, length, take, drop, Ok, Err, sym, ap, ◌∙◌, subst, arith}
 use Rattle.std.proofs.lemmas.List.{take_rest}
 use Rattle.std.proofs.lemmas.Bool.{le-leb, lt-leb}
 use Rattle.rows.specs.declared.fault.Fault.{Fault}
@@ -14,8 +14,7 @@ use Rattle.rows.proofs.Chains.{stops, goes, checked, failed}
 use Rattle.rows.proofs.First.{none_first, some_first}
 use Rattle.methods.specs.Layers.{adding}
 use Rattle.methods.specs.Openings.{most_facts}
-use Rattle.methods.specs.Questions.{Question, question, Meaning}
-use Rattle.methods.specs.SplitLaws.{split-passed}
+use Rattle.methods.specs.Questions.{question, Meaning}
 use Rattle.methods.specs.SplitsAsk.{half, in_turn}
 use Rattle.methods.specs.Splits.{number_from, first_from, first_length, second_from, first_part, second_part, split_row, unless_written, split_tests, split_own}
 use Rattle.methods.proofs.LayerAnswers.{room-count}

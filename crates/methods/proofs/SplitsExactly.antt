@@ -1,10 +1,10 @@
 -- The split says yes exactly when all its conditions hold.
-use Rattle.std.proofs.Common.{◌≡◌, ℕ, ◌<◌, ◌≤◌, not, ◌⊎◌, Ok, sym, refl, ap, ◌∙◌, subst, inl, inr}
+use Rattle.std.proofs.Common.{◌≡◌, not, Ok, sym, ap, inl, inr}
 use Rattle.std.proofs.lemmas.Bool.{le-leb}
 use Rattle.rows.specs.declared.limits.Limit.TheVariants.{WrittenNumber}
 use Rattle.rows.specs.Faults.{moved}
 use Rattle.rows.specs.Limits.{items, magnitude_of}
-use Rattle.rows.specs.Shapes.{Within, beyond, first_beyond}
+use Rattle.rows.specs.Shapes.{beyond, first_beyond}
 use Rattle.rows.proofs.Chains.{goes, checked}
 use Rattle.rows.proofs.First.{none_first}
 use Rattle.methods.specs.LayerLaws.{room-yes}

@@ -1,5 +1,5 @@
 -- The multiplier method says yes exactly when all its conditions hold.
-use Rattle.std.proofs.Common.{◌≡◌, ℕ, true, not, eqb, ℤ, ◌≤ℤ◌, Ok, sym, ap, ◌∙◌, arith}
+use Rattle.std.proofs.Common.{◌≡◌, true, not, ℤ, ◌≤ℤ◌, Ok, sym, ap, arith}
 use lib.Signed.{le_z}
 use Rattle.std.proofs.lemmas.Int.{ints}
 use Rattle.std.proofs.lemmas.Bool.{eq-eqb}

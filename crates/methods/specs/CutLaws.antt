@@ -1,8 +1,8 @@
 -- Proofs, and nothing to believe: the laws of the cut over any lawful method. They stand here since the layer's contract
 -- hands them on, and a contract may name no file of proofs/.
-use Rattle.std.specs.Prelude.{◌≡◌, ℕ, zero, suc, ◌+◌, ◌*◌, ◌/◌, ◌%◌, ◌<◌, ◌≤◌, Bool, true, false, not, ◌⊎◌, List, [], ◌∷◌, ◌++◌, length, drop, ℤ, pos, negsuc, ◌+ℤ◌, ◌*ℤ◌, ◌≤ℤ◌, ◌<ℤ◌, Ok, Err, nat_le, slice_index_or, refl}
+use Rattle.std.specs.Prelude.{◌≡◌, ℕ, zero, suc, ◌+◌, ◌*◌, ◌/◌, ◌<◌, ◌≤◌, List, [], ◌∷◌, length, drop, ℤ, pos, negsuc, ◌+ℤ◌, ◌*ℤ◌, ◌≤ℤ◌, ◌<ℤ◌, Ok, Err, nat_le, slice_index_or, refl}
 use Rattle.std.proofs.Math.Nat.{mul-div-le, lt-mul-div-succ}
-use Rattle.std.proofs.Common.{mul-add, sym, ap, subst, ◌∙◌, inl, inr, arith}
+use Rattle.std.proofs.Common.{sym, ap, subst, ◌∙◌, inl, inr, arith}
 use Rattle.std.proofs.ByRecursion.{All-push}
 use Rattle.std.proofs.lemmas.List.{length_push, get_or_append_left, get_or_push}
 use Rattle.std.proofs.lemmas.Int.{ints, by_lt_z}
@@ -11,9 +11,7 @@ use Rattle.rows.specs.declared.fault.Fault.{Fault}
 use Rattle.rows.specs.declared.fault.FaultKind.TheVariants.{CertificateLength, ColumnDiffers, LayerRowTooLarge, NoRoomForFact}
 use Rattle.rows.specs.declared.limits.Limit.TheVariants.{RowNumber}
 use Rattle.rows.specs.declared.numbers.Numbers.{Numbers}
-use Rattle.rows.specs.Bytes.{word_at}
 use Rattle.rows.specs.Faults.{Said, fault_of, ◌and_then◌, check, unless_found, moved}
-use Rattle.rows.specs.Firsts.{first_below}
 use Rattle.rows.specs.Limits.{columns, items, magnitude_of}
 use Rattle.rows.specs.Shapes.{Within, beyond, first_beyond, dot_to, dot, Meets, MeetsAll}
 use Rattle.rows.proofs.Chains.{both, check-true, found_none, either, check-first, check-place, found-place}
@@ -21,11 +19,11 @@ use Rattle.rows.proofs.Equalities.{int_eq_test-decides}
 use Rattle.rows.proofs.First.{first-none}
 use Rattle.rows.proofs.Ring.{times-le}
 use Rattle.methods.specs.Cuts.{floor_div, tabulate, divisor_from, cut_weights_from, cut_end, divisor, divided, indivisible, divides_say, cut_row, cut_tests, cut_own, cut_says, IsCut}
-use Rattle.methods.specs.LayerLaws.{moved-yes, lower-place, room-yes, OwnLaws, layer-lawful}
+use Rattle.methods.specs.LayerLaws.{moved-yes, lower-place, OwnLaws, layer-lawful}
 use Rattle.methods.specs.Layers.{adding, room_says}
 use Rattle.methods.specs.Questions.{Question, Meaning, Lawful}
 use Rattle.methods.specs.SumsLaws.{range-place, weights-place, range-least}
-use Rattle.methods.specs.WeightedLaws.{columns_to, sum-met, sum-scaled}
+use Rattle.methods.specs.WeightedLaws.{sum-met, sum-scaled}
 use Rattle.methods.specs.Weights.{range_says, weights_say, weighted}
 
 -- the quotient rounded down

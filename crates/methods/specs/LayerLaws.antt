@@ -1,19 +1,18 @@
 -- Proofs, and nothing to believe: the laws of a layer follow from those of the method below and from what its own part
 -- shows. They stand here since the layers' contracts hand them on, and a contract may name no file of proofs/.
-use Rattle.std.specs.Prelude.{◌≡◌, ℕ, ◌+◌, ◌-◌, ◌<◌, ◌≤◌, Bool, true, false, cond, ◌&&◌, List, [], ◌∷◌, ◌++◌, length, drop, ℤ, Ok, Err, ◌==◌, nat_lt, slice_index, refl}
-use Rattle.std.proofs.Common.{sym, ap, subst, ◌∙◌, arith}
-use Rattle.std.proofs.ByRecursion.{All-push}
+use Rattle.std.specs.Prelude.{◌≡◌, ℕ, ◌+◌, ◌<◌, ◌≤◌, Bool, true, false, cond, List, length, drop, ℤ, Ok, Err, ◌==◌, nat_lt, slice_index, refl}
+use Rattle.std.proofs.Common.{sym, ap, arith}
 use Rattle.std.proofs.lemmas.List.{length-drop}
-use Rattle.std.proofs.lemmas.Bool.{and_parts, ltb-true, ltb-false, eqb-true}
+use Rattle.std.proofs.lemmas.Bool.{and_parts, ltb-true, eqb-true}
 use Rattle.rows.specs.declared.fault.Fault.{Fault}
 use Rattle.rows.specs.declared.fault.FaultKind.{FaultKind}
 use Rattle.rows.specs.declared.fault.FaultKind.TheVariants.{CertificateLength, LayerByte}
 use Rattle.rows.specs.declared.numbers.Numbers.{Numbers}
-use Rattle.rows.specs.Faults.{Said, fault_of, raised, moved, check}
+use Rattle.rows.specs.Faults.{Said, fault_of, raised, moved}
 use Rattle.rows.specs.Shapes.{Meets, MeetsAll}
 use Rattle.rows.proofs.Chains.{never, check-true}
 use Rattle.methods.specs.declared.layer.FirstByte.TheVariants.{HandDown, Own}
-use Rattle.methods.specs.Layers.{first_byte_of, by_first, from, adding, room_says, layered}
+use Rattle.methods.specs.Layers.{first_byte_of, by_first, from, room_says, layered}
 use Rattle.methods.specs.OpeningLaws.{opened-yes, opened-place}
 use Rattle.methods.specs.Openings.{most_facts, Begun}
 use Rattle.methods.specs.Questions.{Question, Meaning, Lawful}

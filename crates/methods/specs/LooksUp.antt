@@ -1,5 +1,5 @@
 -- The look-up: the goal, or a stronger row with its coefficients, stands among the facts.
-use Rattle.std.specs.Prelude.{◌≡◌, ℕ, Bool, false, ◌&&◌, ◌||◌, List, [], ◌∷◌, length, ℤ, ◌≤ℤ◌, ◌==◌, int_le}
+use Rattle.std.specs.Prelude.{◌≡◌, ℕ, Bool, false, ◌&&◌, ◌||◌, List, [], ◌∷◌, length, ◌≤ℤ◌, ◌==◌, int_le}
 use Rattle.std.specs.List.{ContainsAt as Has}
 use Rattle.rows.specs.declared.fault.FaultKind.TheVariants.{CertificateLength, BoundNotShown}
 use Rattle.rows.specs.declared.numbers.Numbers.{Numbers}

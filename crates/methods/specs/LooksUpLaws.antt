@@ -1,15 +1,15 @@
 -- Proofs, and nothing to believe: the laws of the look-up. They stand here since the method's contract hands them on,
 -- and a contract may name no file of proofs/.
-use Rattle.std.specs.Prelude.{◌≡◌, ℕ, zero, suc, ◌<◌, ◌≤◌, Bool, true, false, ◌&&◌, ◌||◌, ◌⊎◌, List, [], ◌∷◌, length, ℤ, ◌≤ℤ◌, Ok, Err, ◌==◌, int_le, refl}
-use Rattle.std.proofs.Common.{sym, ap, subst, ◌∙◌, inl, inr, arith}
+use Rattle.std.specs.Prelude.{◌≡◌, ℕ, suc, ◌≤◌, true, List, [], ◌∷◌, length, ℤ, ◌≤ℤ◌, Ok, Err, ◌==◌, int_le, refl}
+use Rattle.std.proofs.Common.{subst, inl, inr, arith}
 use Rattle.std.proofs.ByRecursion.{all-has}
 use Rattle.std.proofs.lemmas.Int.{ints}
 use Rattle.std.proofs.lemmas.Bool.{and_parts, or_cases, eqb-true}
-use Rattle.std.specs.List.{ContainsAt as Has, AllByRecursion as All}
+use Rattle.std.specs.List.{ContainsAt as Has}
 use Rattle.rows.specs.declared.fault.Fault.{Fault}
 use Rattle.rows.specs.declared.fault.FaultKind.TheVariants.{CertificateLength, BoundNotShown}
 use Rattle.rows.specs.declared.numbers.Numbers.{Numbers}
-use Rattle.rows.specs.Faults.{Said, fault_of, ◌and_then◌, check}
+use Rattle.rows.specs.Faults.{fault_of, check}
 use Rattle.rows.specs.Limits.{columns}
 use Rattle.rows.specs.Shapes.{dot, Meets, MeetsAll}
 use Rattle.rows.specs.Wholes.{alike}
@@ -17,7 +17,7 @@ use Rattle.rows.proofs.Chains.{both, check-true, check-first, check-place}
 use Rattle.rows.proofs.Equalities.{alike-decides}
 use Rattle.methods.specs.LooksUp.{covers, listed, search_says, look_up_says, Covers}
 use Rattle.methods.specs.OpeningLaws.{opened-yes, opened-place}
-use Rattle.methods.specs.Questions.{Question, Lawful}
+use Rattle.methods.specs.Questions.{Lawful}
 
 le_from : (a b : ℤ) → int_le a b ≡ true → a ≤ℤ b
 le_from a b e = omega (arith, ints)

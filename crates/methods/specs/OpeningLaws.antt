@@ -1,21 +1,20 @@
 -- Proofs, and nothing to believe: what a yes of the opening tests says, and where their faults stand. They stand here
 -- since the laws of the methods rest on them, and a contract may name no file of proofs/.
-use Rattle.std.specs.Prelude.{◌≡◌, ℕ, ◌<◌, ◌≤◌, Bool, true, false, not, List, [], ◌∷◌, length, Some, None, Ok, Err, Option, nat_le, refl}
-use Rattle.std.proofs.Common.{sym, ap, ◌∙◌, arith}
+use Rattle.std.specs.Prelude.{◌≡◌, not, List, [], ◌∷◌, length, Ok, Err, nat_le, refl}
+use Rattle.std.proofs.Common.{sym, ap}
 use Rattle.std.proofs.lemmas.Bool.{leb-true, le-leb, not-false}
 use Rattle.std.specs.List.{AllByRecursion as All}
 use Rattle.rows.specs.declared.fault.Fault.{Fault}
-use Rattle.rows.specs.declared.fault.FaultKind.{FaultKind}
 use Rattle.rows.specs.declared.fault.FaultKind.TheVariants.{TooManyFacts, RowNumberTooLarge}
 use Rattle.rows.specs.declared.limits.Limit.TheVariants.{RowNumber}
 use Rattle.rows.specs.declared.numbers.Numbers.{Numbers}
-use Rattle.rows.specs.Faults.{Said, fault_of, ◌and_then◌, check, unless_found}
-use Rattle.rows.specs.Limits.{items, magnitude_of, within}
-use Rattle.rows.specs.Shapes.{Within, item_of, beyond, first_beyond}
+use Rattle.rows.specs.Faults.{fault_of, ◌and_then◌, check, unless_found}
+use Rattle.rows.specs.Limits.{items, magnitude_of}
+use Rattle.rows.specs.Shapes.{Within, beyond, first_beyond}
 use Rattle.rows.proofs.Chains.{both, check-true, checked, goes, found_none, either, never, check-place, found-place}
 use Rattle.rows.proofs.First.{none_first, first-none}
 use Rattle.methods.specs.Openings.{most_facts, row_says, rows_say, opening, opened, Opened, Begun}
-use Rattle.methods.specs.Questions.{Question, Meaning, Lawful}
+use Rattle.methods.specs.Questions.{Question, Meaning}
 
 pub row-yes : (row : Numbers) → row_says row ≡ Ok tt → Within (magnitude_of RowNumber) row
 unfolding first_beyond

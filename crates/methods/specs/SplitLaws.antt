@@ -1,7 +1,7 @@
 -- Proofs, and nothing to believe: the laws of the split over any lawful method. They stand here since the layer's
 -- contract hands them on, and a contract may name no file of proofs/.
-use Rattle.std.specs.Prelude.{◌≡◌, ℕ, ◌+◌, ◌-◌, ◌*◌, ◌<◌, ◌≤◌, Bool, true, false, List, [], ◌∷◌, ◌++◌, length, drop, ℤ, ◌≤ℤ◌, ◌<ℤ◌, Some, None, Ok, Err, Option, nat_le, refl}
-use Rattle.std.proofs.Common.{sym, ap, subst, ◌∙◌, arith}
+use Rattle.std.specs.Prelude.{◌≡◌, ℕ, ◌<◌, ◌≤◌, List, [], ◌∷◌, ◌++◌, length, drop, ℤ, Some, None, Ok, Err, Option, nat_le, refl}
+use Rattle.std.proofs.Common.{sym, ap, ◌∙◌, arith}
 use Rattle.std.proofs.ByRecursion.{All-push}
 use Rattle.std.proofs.lemmas.List.{length-take, length-drop}
 use Rattle.std.proofs.lemmas.Int.{ints, by_lt_z}
@@ -11,16 +11,15 @@ use Rattle.rows.specs.declared.fault.FaultKind.TheVariants.{CertificateLength, L
 use Rattle.rows.specs.declared.limits.Limit.TheVariants.{WrittenNumber}
 use Rattle.rows.specs.declared.numbers.Numbers.{Numbers}
 use Rattle.rows.specs.Faults.{Said, fault_of, ◌and_then◌, check, moved}
-use Rattle.rows.specs.Firsts.{first_below}
-use Rattle.rows.specs.Limits.{columns, items, magnitude_of}
-use Rattle.rows.specs.Shapes.{Within, beyond, first_beyond, dot, Meets, MeetsAll, opposite_of}
+use Rattle.rows.specs.Limits.{items, magnitude_of}
+use Rattle.rows.specs.Shapes.{Within, beyond, first_beyond, dot, Meets, opposite_of}
 use Rattle.rows.proofs.Chains.{never, both, check-true, either, check-first, check-place}
 use Rattle.rows.proofs.First.{first-none, first_some}
 use Rattle.rows.proofs.Opposites.{opposite-turns}
 use Rattle.methods.specs.LayerLaws.{moved-yes, moved-place, lower-place, OwnLaws, layer-lawful}
 use Rattle.methods.specs.Layers.{adding, room_says}
 use Rattle.methods.specs.Questions.{Question, question, Meaning, Lawful}
-use Rattle.methods.specs.Splits.{number_from, length_from, first_from, first_length, second_from, first_part, second_part, split_row, unless_written, split_tests, split_own, split_says}
+use Rattle.methods.specs.Splits.{number_from, first_from, first_length, second_from, first_part, second_part, split_row, unless_written, split_tests, split_own, split_says}
 
 -- what a yes of the tests says
 pub record SplitPassed (certificate : List ℕ) : Type 0 where

@@ -1,26 +1,24 @@
 -- Proofs, and nothing to believe: the laws of the multiplier method. They stand here since the method's contract hands
 -- them on, and a contract may name no file of proofs/.
-use Rattle.std.specs.Prelude.{◌≡◌, ℕ, zero, suc, ◌+◌, ◌*◌, ◌<◌, ◌≤◌, Bool, true, false, not, ◌&&◌, List, [], ◌∷◌, length, ℤ, pos, ◌+ℤ◌, ◌*ℤ◌, ◌≤ℤ◌, Ok, Err, ◌==◌, int_le, nat_le, refl}
+use Rattle.std.specs.Prelude.{◌≡◌, ℕ, ◌+◌, ◌*◌, ◌<◌, ◌≤◌, Bool, true, false, ◌&&◌, List, [], ◌∷◌, length, ℤ, pos, ◌*ℤ◌, ◌≤ℤ◌, Ok, Err, ◌==◌, int_le, nat_le}
 use Rattle.std.proofs.Common.{sym, ap, subst, ◌∙◌, arith}
 use Rattle.std.proofs.lemmas.Int.{ints}
 use Rattle.std.proofs.lemmas.Bool.{and_parts, leb-true, eqb-true, not-false}
-use Rattle.std.specs.List.{AllByRecursion as All}
 use Rattle.rows.specs.declared.fault.Fault.{Fault}
 use Rattle.rows.specs.declared.fault.FaultKind.TheVariants.{MultiplierRange, CertificateLength, ColumnDiffers, BoundNotShown}
 use Rattle.rows.specs.declared.numbers.Numbers.{Numbers}
-use Rattle.rows.specs.Faults.{Said, fault_of, ◌and_then◌, check, unless_found}
+use Rattle.rows.specs.Faults.{fault_of, ◌and_then◌, check}
 use Rattle.rows.specs.Limits.{columns}
-use Rattle.rows.specs.Shapes.{item_of, dot_to, dot, Meets, MeetsAll}
-use Rattle.rows.specs.Wholes.{int_eq_test}
+use Rattle.rows.specs.Shapes.{dot_to, dot, Meets, MeetsAll}
 use Rattle.rows.proofs.Chains.{both, check-true, found_none, either, never, check-first, check-place, found-place}
 use Rattle.rows.proofs.Equalities.{int_eq_test-decides}
 use Rattle.rows.proofs.First.{first-none}
 use Rattle.rows.proofs.Items.{item-column, item-bound}
 use Rattle.rows.proofs.Ring.{times-cancel}
 use Rattle.methods.specs.OpeningLaws.{opened-yes, opened-place}
-use Rattle.methods.specs.Questions.{Question, Lawful}
+use Rattle.methods.specs.Questions.{Lawful}
 use Rattle.methods.specs.Sums.{weights_from, scaled, differs, columns_say, bound_says, sums_say, multipliers_say}
-use Rattle.methods.specs.WeightedLaws.{columns_to, sum-met, sum-scaled}
+use Rattle.methods.specs.WeightedLaws.{sum-met, sum-scaled}
 use Rattle.rows.specs.Bytes.{word_at}
 use Rattle.methods.specs.Weights.{most_weight, range_says, weights_say, weighted}
 

@@ -1,13 +1,13 @@
 -- Proofs, and nothing to believe: a point that meets all facts meets every weighted sum of them. They stand here since
 -- the laws of the methods rest on them, and a contract may name no file of proofs/.
-use Rattle.std.specs.Prelude.{◌≡◌, ℕ, zero, suc, ◌+◌, ◌*◌, ◌<◌, ◌≤◌, List, [], ◌∷◌, get_or, ℤ, pos, ◌+ℤ◌, ◌*ℤ◌, ◌≤ℤ◌, slice_index_or, refl}
+use Rattle.std.specs.Prelude.{◌≡◌, ℕ, zero, suc, ◌+◌, ◌<◌, ◌≤◌, List, [], ◌∷◌, get_or, ℤ, pos, ◌+ℤ◌, ◌*ℤ◌, ◌≤ℤ◌, slice_index_or, refl}
 use Rattle.std.proofs.Common.{sym, ap, subst, ◌∙◌, arith}
 use Rattle.std.proofs.lemmas.Int.{ints}
 use Rattle.std.specs.List.{AllByRecursion as All}
 use Rattle.rows.specs.declared.numbers.Numbers.{Numbers}
 use Rattle.rows.specs.Limits.{columns}
 use Rattle.rows.specs.Shapes.{item_of, dot_to}
-use Rattle.rows.proofs.Items.{item-column, item-bound}
+use Rattle.rows.proofs.Items.{item-column}
 use Rattle.rows.proofs.Ring.{+ℤ-*ℤ, *ℤ-assoc, *ℤ-+ℤ, times-le}
 use Rattle.rows.specs.Bytes.{word_at}
 use Rattle.methods.specs.Weights.{weighted}

@@ -1,4 +1,5 @@
 // Proof methods: what one is, multipliers and look-up, the layers cut and split, and asking any of them.
+#![tactic(auto)]
 
 mod asking;
 pub mod cut;

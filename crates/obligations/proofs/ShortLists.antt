@@ -1,5 +1,5 @@
 -- Short lists: how long they are at most, and a loop that puts the elements of one list behind another.
-use Rattle.std.proofs.Common.{◌≡◌, ℕ, zero, suc, ◌+◌, ◌-◌, ◌<◌, ◌≤◌, min, Bool, cond, ltb, List, [], ◌∷◌, ◌++◌, map, length, get_or, take, Option, unwrap_or, sym, refl, ap, ◌∙◌, arith, length-append, length-take}
+use Rattle.std.proofs.Common.{◌≡◌, ℕ, zero, suc, ◌+◌, ◌<◌, ◌≤◌, min, Bool, cond, ltb, List, [], ◌∷◌, ◌++◌, map, length, get_or, take, Option, unwrap_or, sym, refl, ap, ◌∙◌, arith, length-append, length-take}
 use Rattle.std.proofs.lemmas.List.{length-map, length-take-le, take_more, append_assoc}
 use Rattle.std.specs.Option.{option_map}
 use Rattle.records.specs.declared.bounded.BoundedList.{BoundedList}

@@ -1,4 +1,5 @@
 // Steps, plans and obligations on plain values: what a case works out of its table and its witness.
+#![tactic(auto)]
 
 mod admitted;
 pub mod choices;

@@ -1,5 +1,6 @@
 // Tables of vectors for the readers of tables and witnesses, run as tests. The bytes are built here, field by field, and
 // each vector names the whole fault.
+#![tactic(auto)]
 
 #[cfg(test)]
 mod building;

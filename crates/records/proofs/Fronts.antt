@@ -1,8 +1,8 @@
 -- Lists that are the front of their memory: a read at a place, a search, one element more, one replaced.
-use Rattle.std.proofs.Common.{◌≡◌, ℕ, suc, ◌+◌, ◌-◌, ◌<◌, ◌≤◌, min, Bool, true, false, cond, eqb, ltb, ◌⊎◌, List, [], ◌∷◌, ◌++◌, map, length, get_or, take, drop, set, Some, None, Option, unwrap_or, sym, refl, ap, ◌∙◌, inl, inr, ⊎_elim, le_of_lt, arith, length-set, length-take, MatchOption}
+use Rattle.std.proofs.Common.{◌≡◌, ℕ, suc, ◌+◌, ◌-◌, ◌<◌, ◌≤◌, min, Bool, true, false, cond, eqb, ltb, List, [], ◌∷◌, ◌++◌, map, length, get_or, take, drop, set, Some, None, Option, unwrap_or, sym, refl, ap, ◌∙◌, inl, inr, ⊎_elim, le_of_lt, arith, length-set, length-take, MatchOption}
 use native.Mathlib.Nat.{min-eq_left, min-eq_right}
 use lib.Seq.{take-set-lt}
-use Rattle.std.proofs.lemmas.List.{at_drop_more, at_drop_all, take_all, length-take-le, take_more_set, drop-drop, drop-set-lt, set_past, drop-set}
+use Rattle.std.proofs.lemmas.List.{at_drop_more, at_drop_all, take_all, length-take-le, take_more_set, drop-drop, drop-set-lt, set_past}
 use Rattle.std.proofs.lemmas.Bool.{cases_lt, lt-ltb, le-ltb, cond-true, cond-false, cases_Bool}
 use Rattle.std.specs.Option.{option_map}
 use Rattle.records.specs.Lists.{place_of, at, first, first_with, among}

@@ -1,5 +1,5 @@
 -- What a table and a witness hold, as plain numbers, and what the code's records say in these words.
-use Rattle.std.specs.Prelude.{ℕ, List, map}
+use Rattle.std.specs.Prelude.{ℕ, List}
 use Rattle.rows.specs.declared.expression.Expression.{Expression}
 use Rattle.rows.specs.declared.numbers.Numbers.{Numbers}
 use Rattle.rows.specs.declared.written.WrittenRow.{WrittenRow}

@@ -1,4 +1,5 @@
 // The records of a table and a witness, short lists by value, and the register that holds records in lent memory.
+#![tactic(auto)]
 
 pub mod bounded;
 pub mod heading;

@@ -1,4 +1,5 @@
 // Every line that the console prints: what is answered to a command, and to a line that is none.
+#![tactic(auto)]
 
 pub mod error_line;
 pub mod reply;

@@ -1,6 +1,6 @@
 -- The plan of a listed place: which inner transition it takes in a state, and with which choices. The plan's step and its
 -- runs follow from that.
-use Rattle.std.specs.Prelude.{◌≡◌, ℕ, zero, suc, Bool, cond, not, List, [], ◌∷◌, map, length, ℤ, Some, None, Option, int_le, slice_index_or}
+use Rattle.std.specs.Prelude.{ℕ, zero, suc, Bool, cond, not, List, [], ◌∷◌, map, length, ℤ, Some, None, Option, int_le, slice_index_or}
 use Rattle.rows.specs.declared.numbers.Numbers.{Numbers}
 use Rattle.rows.specs.Firsts.{first_below}
 use Rattle.rows.specs.Shapes.{dot}

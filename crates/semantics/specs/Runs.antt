@@ -1,6 +1,6 @@
 -- What a table can do: initial states, steps and finite runs over unlimited whole numbers. Written without a look at the
 -- code, and nothing is assumed of the table.
-use Rattle.std.specs.Prelude.{◌≡◌, ℕ, zero, suc, ◌⊎◌, List, [], ◌∷◌, map, ℤ}
+use Rattle.std.specs.Prelude.{◌≡◌, ℕ, suc, ◌⊎◌, List, [], ◌∷◌, map, ℤ}
 use Rattle.rows.specs.declared.numbers.Numbers.{Numbers}
 use Rattle.rows.specs.Shapes.{MeetsAll, value_of}
 use Rattle.records.specs.Limits.{most_values, most_choices}

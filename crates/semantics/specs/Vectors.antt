@@ -3,7 +3,7 @@
 use Rattle.std.specs.Prelude.{◌≡◌, ℕ, ◌≤◌, List, ◌++◌, length, take, replicate, ℤ, pos, slice_index_or}
 use Rattle.rows.specs.declared.numbers.Numbers.{Numbers}
 use Rattle.rows.specs.Shapes.{MeetsAll}
-use Rattle.records.specs.Limits.{most_values, most_choices}
+use Rattle.records.specs.Limits.{most_choices}
 
 -- n numbers: these, and zeros behind them
 abbrev pub padded : ℕ → List ℤ → List ℤ

@@ -1,5 +1,5 @@
 -- Filling the registers of a witness, one piece at a time. One law serves both kinds of records.
-use Rattle.std.proofs.Common.{◌≡◌, ℕ, ◌+◌, ◌<◌, ◌≤◌, List, [], ◌∷◌, ◌++◌, map, length, drop, Ok, sym, refl, ap, ◌∙◌, subst, append_assoc, arith}
+use Rattle.std.proofs.Common.{◌≡◌, ℕ, ◌+◌, ◌≤◌, List, [], ◌∷◌, ◌++◌, map, length, drop, Ok, sym, refl, ap, ◌∙◌, append_assoc, arith}
 use Rattle.std.proofs.lemmas.List.{length_push, length-map, drop-drop, append-nil}
 use Rattle.records.specs.declared.register.Register.{Register}
 use Rattle.records.specs.declared.records.Place.{Place}
@@ -9,7 +9,7 @@ use Rattle.sequences.specs.Admitted.{Roomy, places_added, inners_added, place_co
 use Rattle.records.specs.Held.{held, behind, room}
 use Rattle.records.specs.Limits.{most_places, most_inners}
 use Rattle.records.specs.Records.{PlaceData, InnerData}
-use Rattle.formats.specs.Witnesses.{PartData, PlacePart, InnerPart, Progress, RecordData, PlaceRecord, InnerRecord, further_by, body_by, record_by, places_with, inners_with}
+use Rattle.formats.specs.Witnesses.{PartData, PlacePart, InnerPart, Progress, further_by, body_by, record_by, places_with, inners_with}
 use Rattle.formats.proofs.WitnessParts.{place-room, inner_room}
 
 -- a register that holds the records read so far: with those ahead they are all, they are as many as were noted, and the

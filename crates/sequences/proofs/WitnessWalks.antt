@@ -1,5 +1,5 @@
 -- The walk over the pieces of a witness, as the code makes it: what holds before each piece.
-use Rattle.std.proofs.Common.{◌≡◌, ℕ, ◌+◌, ◌-◌, ◌^◌, ◌<◌, ◌≤◌, List, [], ◌∷◌, ◌++◌, map, length, Ok, Err, sym, refl, ap, ◌∙◌, subst, append_assoc, arith}
+use Rattle.std.proofs.Common.{◌≡◌, ℕ, ◌^◌, ◌<◌, ◌≤◌, List, ◌∷◌, ◌++◌, map, length, Ok, Err, sym, refl, ap, ◌∙◌, subst, append_assoc, arith}
 use Rattle.std.proofs.lemmas.List.{append-nil}
 use Rattle.rows.specs.declared.fault.Fault.{Fault}
 use Rattle.rows.specs.declared.fault.FaultKind.TheVariants.{WitnessLength}
@@ -10,7 +10,7 @@ use Rattle.sequences.specs.Handed.{ReaderData, standing, part_found, passed_at}
 use Rattle.formats.specs.Pieces.{pieces_from, piece_end, piece_says}
 use Rattle.records.specs.Records.{PlaceData, InnerData}
 use Rattle.formats.specs.Walks.{PieceData, piece_data, left, pieces_at, walk_says}
-use Rattle.formats.specs.Witnesses.{PartData, PlacePart, InnerPart, Progress, RecordData, PlaceRecord, InnerRecord, Named, begun, further, further_by, part_of, kind_says, part_says, body_by, record_by, places_with, inners_with, places_of, inners_of, pieces_of, pieces_say, witness_at, numbers_in, reference_by, references_say, Reached}
+use Rattle.formats.specs.Witnesses.{PartData, PlacePart, InnerPart, Progress, Named, begun, further, further_by, part_of, kind_says, part_says, body_by, record_by, places_with, inners_with, places_of, inners_of, pieces_of, pieces_say, witness_at, numbers_in, reference_by, references_say, Reached}
 use Rattle.sequences.proofs.HandedSteps.{Given, part-is, part-located}
 use Rattle.sequences.proofs.RecordsSame.{same-progress}
 use Rattle.formats.proofs.WitnessParts.{place-plan, kind-reaches}

@@ -1,10 +1,10 @@
 -- What reading a witness leaves in the registers of listed places and of inner transitions.
-use Rattle.std.specs.Prelude.{◌≡◌, ℕ, ◌<◌, List, [], ◌∷◌, ◌++◌, map, length, drop, Ok, Err, Result}
+use Rattle.std.specs.Prelude.{ℕ, ◌<◌, List, [], ◌∷◌, ◌++◌, length, Result}
 use Rattle.rows.specs.declared.fault.Fault.{Fault}
 use Rattle.records.specs.declared.records.Place.{Place}
 use Rattle.records.specs.declared.records.Inner.{Inner}
 use Rattle.records.specs.declared.register.Register.{Register}
-use Rattle.records.specs.Held.{held, behind, room, ReadInto}
+use Rattle.records.specs.Held.{held, room, ReadInto}
 use Rattle.records.specs.Records.{PlaceData, InnerData, WitnessData, place_record_of, inner_of}
 use Rattle.formats.specs.Witnesses.{RecordData, PlaceRecord, InnerRecord}
 

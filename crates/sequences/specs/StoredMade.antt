@@ -1,13 +1,8 @@
 -- What the code makes of stored rows and expressions: the values that the definitions give, or the first fault.
-use Rattle.std.specs.Prelude.{◌≡◌, ℕ, ◌+◌, ◌*◌, ◌^◌, ◌<◌, ◌≤◌, List, map, length, Ok, Err, Result}
+use Rattle.std.specs.Prelude.{◌≡◌, ℕ, ◌+◌, ◌^◌, ◌<◌, length, Ok, Err, Result}
 use Rattle.rows.specs.declared.fault.Fault.{Fault}
 use Rattle.rows.specs.declared.fault.FaultKind.{FaultKind}
-use Rattle.rows.specs.declared.limits.Limit.TheVariants.{WrittenNumber}
 use Rattle.rows.specs.declared.numbers.Numbers.{Numbers}
-use Rattle.rows.specs.Faults.{Said}
-use Rattle.rows.specs.Limits.{magnitude_of}
-use Rattle.rows.specs.Made.{FirstOver}
-use Rattle.rows.specs.Shapes.{Within}
 use Rattle.records.specs.declared.bounded.BoundedList.{BoundedList}
 use Rattle.sequences.specs.declared.piece.Piece.{Piece}
 use Rattle.records.specs.declared.shape.Shape.{Shape}

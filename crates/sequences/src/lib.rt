@@ -1,4 +1,5 @@
 // Tables and witnesses: the readers of their bytes.
+#![tactic(auto)]
 
 pub mod admission;
 pub mod piece;

@@ -1,4 +1,5 @@
 // A table that is held by its bytes, what it holds in short, and the witnesses that are read for it.
+#![tactic(auto)]
 
 mod blank;
 pub mod held;

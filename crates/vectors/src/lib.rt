@@ -1,5 +1,6 @@
 // Tables of vectors for rows and proof methods, run as tests. Each vector names the whole fault: kind, place, depth
 // and item.
+#![tactic(auto)]
 
 #[cfg(test)]
 mod count_vectors;

@@ -1,5 +1,5 @@
 -- Written numbers and bytes are words: they hold no separator.
-use Rattle.std.proofs.Common.{◌≡◌, ℕ, suc, ◌-◌, ◌^◌, ◌<◌, Bool, true, false, not, ◌&&◌, List, [], ◌∷◌, length, ℤ, pos, negsuc, is_ok, Ok, Err, codes, decimal, Result, sym, refl, subst, ⊎_elim, arith}
+use Rattle.std.proofs.Common.{◌≡◌, ℕ, suc, ◌^◌, ◌<◌, Bool, true, false, not, ◌&&◌, List, [], ◌∷◌, length, ℤ, pos, negsuc, is_ok, Ok, Err, codes, decimal, Result, sym, refl, subst, ⊎_elim, arith}
 use lib.Signed.{mag}
 use Rattle.std.specs.Char.{is_ascii_hexdigit, is_ascii_digit}
 use Rattle.std.specs.List.{AllByRecursion as All}

@@ -1,4 +1,5 @@
 // Words of a line and what they write: numbers, bytes, and why a word or a line is refused.
+#![tactic(auto)]
 
 pub mod arguments;
 pub mod errors;

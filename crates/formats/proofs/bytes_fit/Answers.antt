@@ -1,5 +1,5 @@
 -- Each byte that the loop comes to fits its type.
-use Rattle.std.proofs.Common.{ℕ, ◌<◌, length, get_or, take, subst, rules}
+use Rattle.std.proofs.Common.{◌<◌, length, get_or, subst, rules}
 use Rattle.std.proofs.ByRecursion.{All-more}
 use Rattle.std.proofs.lemmas.List.{take_all}
 use Rattle.formats.specs.Writing.{AreBytes}

@@ -1,4 +1,3 @@
-use Rattle.std.proofs.Common.{◌≡◌}
 use Rattle.std.proofs.lemmas.Result.{err_from_is_err_and}
 use Rattle.rows.proofs.Chains.{stops, goes}
 use Rattle.extension.specs.ZeroGoals.{zero_goal_tests}

@@ -1,5 +1,4 @@
-use Rattle.std.proofs.Common.{◌≡◌, ℕ, pos, sym, ap, ◌∙◌, w64, SFits, rules, below_more}
-use Rattle.std.specs.Int.{int_rem_euclid}
+use Rattle.std.proofs.Common.{ℕ, pos, sym, ap, ◌∙◌, w64, SFits, rules, below_more}
 use Rattle.rows.specs.declared.fault.FaultKind.TheVariants.{ColumnDiffers}
 use Rattle.rows.specs.Faults.{unless_found}
 use Rattle.rows.specs.Limits.{columns}

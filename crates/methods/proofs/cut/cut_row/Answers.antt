@@ -1,15 +1,13 @@
-use Rattle.std.proofs.Common.{◌≡◌, ◌<◌, length, sym, ap, ◌∙◌, arith}
+use Rattle.std.proofs.Common.{sym, ap, ◌∙◌}
 use Rattle.std.proofs.lemmas.Result.{err_from_is_err_and}
 use Rattle.std.proofs.lemmas.Bool.{le-leb, lt-leb}
 use Rattle.rows.specs.declared.fault.FaultKind.TheVariants.{LayerRowTooLarge}
 use Rattle.rows.specs.declared.limits.Limit.TheVariants.{RowNumber}
-use Rattle.rows.specs.declared.numbers.Numbers.{Numbers}
 use Rattle.rows.specs.Faults.{unless_found}
 use Rattle.rows.specs.Limits.{magnitude_of}
 use Rattle.rows.specs.Shapes.{first_beyond}
 use Rattle.rows.proofs.Chains.{stops, goes, checked, failed}
 use Rattle.methods.specs.Cuts.{cut_tests, cut_weights_from, divisor_from}
-use Rattle.methods.specs.CutsAsk.{Divisible}
 use Rattle.methods.proofs.WeightTests.{range-yes, weights-yes}
 use Rattle.methods.proofs.cut.cut_row.Goals as goal
 

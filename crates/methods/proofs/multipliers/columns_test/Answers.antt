@@ -1,5 +1,5 @@
 use Rattle.rows.specs.Faults.{unless_found}
-use Rattle.std.proofs.Common.{sym, ap, ◌∙◌, w64, SFits, rules, below_more}
+use Rattle.std.proofs.Common.{sym, ap, w64, SFits, rules, below_more}
 use Rattle.rows.specs.declared.fault.FaultKind.TheVariants.{ColumnDiffers}
 use Rattle.rows.specs.Limits.{columns}
 use Rattle.rows.proofs.First.{none_first, some_first, none-at}

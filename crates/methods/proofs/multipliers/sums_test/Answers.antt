@@ -1,9 +1,7 @@
-use Rattle.std.proofs.Common.{◌≡◌, sym, ◌∙◌, arith}
+use Rattle.std.proofs.Common.{sym, arith}
 use Rattle.std.proofs.lemmas.Result.{err_from_is_err_and}
 use Rattle.std.proofs.lemmas.Bool.{eq-eqb, ne_eqb}
 use Rattle.methods.specs.Sums.{sums_say, weights_from}
-use Rattle.methods.specs.SumsAsk.{Comparable}
-use Rattle.methods.specs.Weighing.{Weighable}
 use Rattle.rows.proofs.Chains.{stops, goes, checked, failed}
 use Rattle.methods.proofs.WeightTests.{range-yes, weights-yes}
 use Rattle.methods.proofs.multipliers.sums_test.Goals as goal

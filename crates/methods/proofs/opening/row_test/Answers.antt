@@ -1,4 +1,3 @@
-use Rattle.std.proofs.Common.{sym, ◌∙◌}
 use Rattle.std.proofs.lemmas.Result.{err_from_is_err_and}
 use Rattle.methods.proofs.RowTests.{row-from-ok, row-from-err}
 use Rattle.methods.proofs.opening.row_test.Goals as goal

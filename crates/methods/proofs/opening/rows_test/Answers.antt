@@ -1,4 +1,4 @@
-use Rattle.std.proofs.Common.{sym, ◌∙◌}
+use Rattle.std.proofs.Common.{sym}
 use Rattle.std.proofs.lemmas.Result.{err_from_is_err_and}
 use Rattle.methods.proofs.RowTests.{rows-fault, rows_more, rows_all}
 use Rattle.methods.proofs.opening.rows_test.Goals as goal

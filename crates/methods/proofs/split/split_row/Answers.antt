@@ -1,4 +1,4 @@
-use Rattle.std.proofs.Common.{◌≡◌, ℕ, ◌+◌, ◌<◌, ◌≤◌, length, sym, ap, ◌∙◌, subst}
+use Rattle.std.proofs.Common.{◌≡◌, ℕ, ◌+◌, ◌<◌, ◌≤◌, length, ap, ◌∙◌, subst}
 use Rattle.methods.specs.Splits.{first_from, second_from}
 use Rattle.methods.proofs.SplitAnswers.{row-short, row_written, row-too-large}
 use Rattle.methods.proofs.split.split_row.Goals as goal

@@ -1,6 +1,6 @@
-use Rattle.std.proofs.Common.{ℕ, ℤ, pos, ap, ◌∙◌, w64, SFits, rules}
+use Rattle.std.proofs.Common.{ℕ, pos, ap, ◌∙◌, w64, SFits, rules}
 use Rattle.methods.specs.Zero.{no_numbers}
-use Rattle.methods.proofs.WeightedSums.{Coded, coded, turn_end}
+use Rattle.methods.proofs.WeightedSums.{coded, turn_end}
 use Rattle.methods.proofs.weights.weighted_sum.Goals as goal
 
 pub overflow_mul-sum : goal.overflow_mul-sum

@@ -1,6 +1,5 @@
-use Rattle.std.proofs.Common.{◌≡◌, ℕ, ◌+◌, ◌*◌, sym, ap, ◌∙◌, arith}
+use Rattle.std.proofs.Common.{◌≡◌, ℕ, ◌+◌, ◌*◌, ap, arith}
 use Rattle.std.proofs.lemmas.Result.{err_from_is_err_and}
-use Rattle.rows.specs.declared.numbers.Numbers.{Numbers}
 use Rattle.methods.specs.Weights.{weights_say}
 use Rattle.methods.proofs.WeightTests.{weights-fault, weights-more, weights-all}
 use Rattle.methods.specs.Zero.{no_numbers}

@@ -1,20 +1,20 @@
-use Rattle.std.proofs.Common.{◌≡◌, ℕ, ◌^◌, ◌<◌, ◌≤◌, List, [], map, length, drop, Ok, Err, Option, sym, refl, ap, ◌∙◌, subst, rules}
+use Rattle.std.proofs.Common.{◌≡◌, ℕ, ◌^◌, ◌<◌, ◌≤◌, List, map, length, drop, Ok, Option, sym, refl, ap, ◌∙◌, subst, rules}
 use Rattle.std.specs.Option.{option_map}
 use Rattle.rows.proofs.Chains.{never}
 use Rattle.sequences.specs.declared.witness.WitnessPiece.{WitnessPiece}
 use Rattle.sequences.specs.Admitted.{Roomy, places_added, inners_added, place_count, inner_count}
 use Rattle.sequences.specs.Handed.{ReaderData, reader_of, progress_of, data_of, record_of, passed_at}
-use Rattle.records.specs.Held.{held, behind, room}
+use Rattle.records.specs.Held.{held, behind}
 use Rattle.records.specs.Limits.{most_places, most_inners}
 use Rattle.formats.specs.Pieces.{pieces_from}
 use Rattle.records.specs.Records.{PlaceData, InnerData, place_record_of, inner_of}
 use Rattle.formats.specs.Walks.{PieceData}
-use Rattle.formats.specs.Witnesses.{PartData, Progress, RecordData, begun, body_by, record_by, further_by, places_of, inners_of, pieces_of, witness_at}
+use Rattle.formats.specs.Witnesses.{Progress, RecordData, body_by, record_by, further_by, places_of, inners_of, pieces_of, witness_at}
 use Rattle.sequences.proofs.Filling.{Filled, filled-begins, filled-done, places-after, inners-after, roomy}
 use Rattle.sequences.proofs.HandedSteps.{Given, some-handed, none-handed, fault-handed, part-located, comes-on}
 use Rattle.formats.proofs.PieceTests.{given-ok, given-err}
 use Rattle.formats.proofs.WalkSteps.{pieces-all}
-use Rattle.sequences.proofs.WitnessWalks.{Walking, ahead, walking-begins, walking-lost, walking-refused, walking-passes, walking-more, next-places, next-inners}
+use Rattle.sequences.proofs.WitnessWalks.{Walking, ahead, walking-begins, walking-lost, walking-passes, walking-more, next-places, next-inners}
 use Rattle.sequences.proofs.admission.fill.Goals as goal
 use Rattle.sequences.proofs.admission.fill.Goals.{In-Some, In_ok-found, After-keep}
 

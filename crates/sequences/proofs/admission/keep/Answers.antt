@@ -1,11 +1,9 @@
-use Rattle.std.proofs.Common.{◌≡◌, ℕ, ◌<◌, List, map, drop, sym, refl, ap, ◌∙◌, subst}
+use Rattle.std.proofs.Common.{map, drop, sym, refl, ap, ◌∙◌, subst}
 use Rattle.std.proofs.lemmas.List.{map_push}
-use Rattle.records.specs.declared.records.Inner.{Inner}
-use Rattle.records.specs.declared.records.Place.{Place}
 use Rattle.sequences.specs.Admitted.{Roomy, places_added, inners_added, place_count, inner_count}
 use Rattle.sequences.specs.Handed.{record_of}
 use Rattle.records.specs.Held.{held, behind}
-use Rattle.records.specs.Records.{PlaceData, InnerData, place_record_of, inner_of}
+use Rattle.records.specs.Records.{place_record_of, inner_of}
 use Rattle.formats.specs.Witnesses.{RecordData}
 use Rattle.records.proofs.Fronts.{took-held}
 use Rattle.sequences.proofs.admission.keep.Goals as goal

@@ -1,13 +1,11 @@
-use Rattle.std.proofs.Common.{◌≡◌, ℕ, ◌≤◌, true, ◌&&◌, leb, List, map, length, drop, Ok, Err, Result, sym, refl, ap, ◌∙◌, subst}
+use Rattle.std.proofs.Common.{◌≡◌, ℕ, ◌≤◌, true, leb, map, length, drop, Ok, sym, ap, ◌∙◌, subst}
 use Rattle.std.proofs.lemmas.Bool.{and_parts, leb-true}
-use Rattle.rows.specs.declared.fault.Fault.{Fault}
-use Rattle.rows.specs.Faults.{Said}
 use Rattle.rows.proofs.Chains.{goes, check-true}
 use Rattle.records.specs.declared.shape.Shape.{Shape}
 use Rattle.sequences.specs.Admitted.{AdmittedInto}
-use Rattle.records.specs.Held.{held, behind, room}
+use Rattle.records.specs.Held.{held, room}
 use Rattle.records.specs.Limits.{most_places, most_inners, most_choices}
-use Rattle.records.specs.Records.{heading_of, shape_of, transition_of, place_record_of, inner_of}
+use Rattle.records.specs.Records.{heading_of, shape_of, transition_of}
 use Rattle.formats.specs.Witnesses.{pieces_say, witness_at, witness_memory_says}
 use Rattle.formats.proofs.WitnessParts.{content-pieces}
 use Rattle.sequences.proofs.admission.read_into.Goals as goal

@@ -1,4 +1,4 @@
-use Rattle.std.proofs.Common.{◌≡◌, Bool, true, false, ◌&&◌, Option, sym, refl, ap, ◌∙◌}
+use Rattle.std.proofs.Common.{Bool, ◌&&◌, Option, sym, ap, ◌∙◌}
 use Rattle.std.proofs.lemmas.Bool.{eq-eqb, ne_eqb}
 use Rattle.records.specs.Bounded.{listed}
 use Rattle.records.specs.Lists.{among}

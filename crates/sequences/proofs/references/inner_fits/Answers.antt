@@ -1,4 +1,4 @@
-use Rattle.std.proofs.Common.{◌≡◌, Bool, true, false, ◌&&◌, sym, refl, ap, ◌∙◌}
+use Rattle.std.proofs.Common.{Bool, ◌&&◌, sym, ap, ◌∙◌}
 use Rattle.records.specs.Bounded.{listed}
 use Rattle.records.specs.Lists.{among}
 use Rattle.formats.specs.Witnesses.{inner_fits, joins_listed}

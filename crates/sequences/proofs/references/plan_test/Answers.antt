@@ -1,15 +1,14 @@
-use Rattle.std.proofs.Common.{◌≡◌, ℕ, ◌+◌, ◌-◌, ◌*◌, ◌^◌, ◌<◌, ◌≤◌, Bool, map, Ok, Err, sym, refl, ap, ◌∙◌, arith}
+use Rattle.std.proofs.Common.{◌≡◌, ℕ, ◌+◌, ◌-◌, ◌*◌, ◌^◌, ◌<◌, Bool, map, ap, ◌∙◌, arith}
 use Rattle.std.proofs.lemmas.Nat.{mul-le}
 use Rattle.std.proofs.lemmas.Result.{err_from_is_err_and}
-use Rattle.rows.specs.declared.fault.FaultKind.TheVariants.{WitnessReference}
 use Rattle.rows.specs.Bytes.{word_at}
 use Rattle.rows.specs.Faults.{Said, check}
 use Rattle.sequences.specs.Handed.{progress_of}
 use Rattle.records.specs.Held.{held}
-use Rattle.formats.specs.Pieces.{byte_at, each_says, fault_at, rest_from}
+use Rattle.formats.specs.Pieces.{byte_at, each_says, rest_from}
 use Rattle.records.specs.Records.{transition_of}
 use Rattle.records.specs.Slots.{over_values, stride}
-use Rattle.formats.specs.Witnesses.{Named, named_in, number_from, count_from, rows_from, plan_count_from, plan_from, entries, entry_stride, entry_from, entry_fits, entry_test, place_length, plan_says}
+use Rattle.formats.specs.Witnesses.{named_in, number_from, rows_from, plan_count_from, plan_from, entries, entry_stride, entry_fits, entry_test, plan_says}
 use Rattle.formats.proofs.PieceTests.{each-stops, each_more}
 use Rattle.sequences.proofs.references.plan_test.Goals as goal
 use Rattle.sequences.proofs.references.plan_test.Goals.{After-word_at-place, After-fault}

@@ -1,13 +1,12 @@
-use Rattle.std.proofs.Common.{◌≡◌, ℕ, ◌^◌, ◌<◌, List, map, length, Ok, Err, Option, sym, refl, ap, ◌∙◌, subst, rules}
+use Rattle.std.proofs.Common.{◌≡◌, ℕ, ◌^◌, ◌<◌, List, map, length, Ok, Option, sym, refl, ap, ◌∙◌, subst, rules}
 use Rattle.std.proofs.lemmas.Result.{err_from_is_err_and}
 use Rattle.std.specs.Option.{option_map}
 use Rattle.rows.proofs.Chains.{stops, goes, never}
 use Rattle.sequences.specs.declared.witness.WitnessPiece.{WitnessPiece}
-use Rattle.sequences.specs.Handed.{ReaderData, reader_of, progress_of, data_of, passed_at}
+use Rattle.sequences.specs.Handed.{ReaderData, reader_of, progress_of, data_of}
 use Rattle.records.specs.Held.{held}
 use Rattle.records.specs.Records.{transition_of}
-use Rattle.formats.specs.Walks.{PieceData}
-use Rattle.formats.specs.Witnesses.{PartData, Progress, begun, body_by, further_by, named_in, pieces_of, references_say}
+use Rattle.formats.specs.Witnesses.{begun, body_by, further_by, named_in, pieces_of, references_say}
 use Rattle.sequences.proofs.HandedSteps.{Given, some-handed, none-handed, fault-handed, comes-on}
 use Rattle.formats.proofs.WalkSteps.{pieces-all}
 use Rattle.sequences.proofs.WitnessWalks.{Walking, ahead, walking-begins, walking-lost, walking-passes, walking-more, next-references, passed-reached}

@@ -1,14 +1,10 @@
-use Rattle.std.proofs.Common.{◌≡◌, ℕ, ◌+◌, ◌*◌, ◌<◌, ◌≤◌, Bool, true, cond, ltb, List, [], ◌∷◌, ◌++◌, map, length, Ok, Err, sym, refl, ap, ◌∙◌, subst, arith}
+use Rattle.std.proofs.Common.{◌≡◌, ℕ, ◌+◌, ◌*◌, ◌<◌, ◌≤◌, Bool, true, cond, List, [], ◌∷◌, ◌++◌, map, length, Ok, Err, sym, refl, ap, ◌∙◌, arith}
 use Rattle.std.proofs.lemmas.List.FromFn.{length-map-range_with_len, map-range_with_len_more}
 use Rattle.std.proofs.lemmas.List.{length-map, map_push}
 use Rattle.std.proofs.lemmas.Result.{err_from_is_err_and}
 use Rattle.std.proofs.lemmas.Bool.{lt-ltb}
 use Rattle.rows.specs.declared.numbers.Numbers.{Numbers}
-use Rattle.rows.specs.declared.fault.Fault.{Fault}
-use Rattle.rows.specs.Faults.{Said}
 use Rattle.records.specs.Bounded.{listed}
-use Rattle.formats.specs.Pieces.{rest_from}
-use Rattle.records.specs.Bounded.{plain_list}
 use Rattle.formats.specs.StoredRows.{row_at, row_says, rows_at, rows_say}
 use Rattle.records.specs.Slots.{stride}
 use Rattle.formats.proofs.PieceTests.{each-stops, each_more, given, given-fault, given-ok, given-err}

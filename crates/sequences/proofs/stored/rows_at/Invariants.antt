@@ -1,4 +1,4 @@
-use Rattle.std.proofs.Common.{◌≡◌, ℕ, ◌+◌, ◌*◌, map, Ok}
+use Rattle.std.proofs.Common.{◌≡◌, map, Ok}
 use Rattle.records.specs.Bounded.{listed}
 use Rattle.formats.specs.StoredRows.{rows_at, rows_say}
 use Rattle.sequences.proofs.stored.rows_at.Given as goal

@@ -1,13 +1,11 @@
-use Rattle.std.proofs.Common.{◌≡◌, ℕ, ◌≤◌, List, length, Ok, Err, sym, refl, ap, ◌∙◌, subst}
+use Rattle.std.proofs.Common.{◌≡◌, ℕ, ◌≤◌, length, Ok, sym, ap, ◌∙◌, subst}
 use Rattle.std.proofs.lemmas.Result.{err_from_is_err_and}
-use Rattle.rows.specs.declared.fault.Fault.{Fault}
-use Rattle.rows.specs.Faults.{Said}
 use Rattle.rows.proofs.Chains.{stops, goes}
 use Rattle.records.specs.declared.shape.Shape.{Shape}
 use Rattle.records.specs.Limits.{most_values, most_transitions}
 use Rattle.formats.specs.Pieces.{pieces_from, piece_end}
-use Rattle.records.specs.Records.{HeadingData, heading_of, shape_of}
-use Rattle.formats.specs.Tables.{values_from, heading_shape, heading_rest, heading_at, heading_says, transitions_say, content_says, table_at}
+use Rattle.records.specs.Records.{heading_of, shape_of}
+use Rattle.formats.specs.Tables.{heading_shape, heading_rest, heading_at, heading_says, transitions_say, content_says, table_at}
 use Rattle.formats.proofs.HeadingLimits.{heading-values}
 use Rattle.formats.proofs.PieceTests.{given, given-fault, given-ok, given-err}
 use Rattle.sequences.proofs.table.content_test.Goals as goal

@@ -1,14 +1,12 @@
 use Rattle.std.proofs.Common.{◌≡◌, ℕ, ◌+◌, ◌-◌, ◌<◌, ◌≤◌, List, [], ◌∷◌, ◌++◌, map, length, drop, Ok, sym, refl, ap, ◌∙◌, append_assoc, arith}
 use Rattle.std.proofs.lemmas.List.{map_push, length_push, drop-drop, append-nil}
-use Rattle.std.proofs.lemmas.Result.{err_from_is_err_and}
-use Rattle.rows.specs.Bytes.{word_at}
 use Rattle.rows.proofs.Chains.{never}
 use Rattle.records.specs.declared.records.Transition.{Transition}
 use Rattle.records.specs.Held.{held, behind, room}
 use Rattle.records.specs.Limits.{most_transitions}
 use Rattle.formats.specs.Pieces.{piece_at, piece_end}
 use Rattle.records.specs.Records.{TransitionData, transition_of}
-use Rattle.formats.specs.Tables.{number_from, transition_at, next_says, transitions_at, transitions_say}
+use Rattle.formats.specs.Tables.{transition_at, next_says, transitions_at, transitions_say}
 use Rattle.records.proofs.Fronts.{took-held}
 use Rattle.formats.proofs.PieceTests.{given-ok, given-err}
 use Rattle.formats.proofs.TransitionSteps.{next-room, next-ends, say-fault, say-more, at_more, at_all}

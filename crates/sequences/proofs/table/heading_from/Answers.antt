@@ -1,14 +1,12 @@
-use Rattle.std.proofs.Common.{◌≡◌, ℕ, ◌+◌, ◌*◌, List, sym, refl, ap, ◌∙◌}
+use Rattle.std.proofs.Common.{◌≡◌, ℕ, ◌+◌, ◌*◌, ap, ◌∙◌}
 use Rattle.std.proofs.lemmas.Result.{err_from_is_err_and}
 use Rattle.rows.specs.declared.fault.FaultKind.TheVariants.{TableLength, TableWritten}
-use Rattle.rows.specs.declared.numbers.Numbers.{Numbers}
 use Rattle.rows.proofs.Chains.{stops, goes}
 use Rattle.records.specs.declared.shape.Shape.{Shape}
 use Rattle.formats.specs.Pieces.{byte_at, long_says}
-use Rattle.records.specs.Records.{HeadingData}
 use Rattle.formats.specs.StoredRows.{rows_at, rows_say}
 use Rattle.records.specs.Slots.{over_values, stride}
-use Rattle.formats.specs.Tables.{values_from, choices_from, start_from, initial_from, initial_count_from, heading_shape, heading_at, heading_length, heading_says}
+use Rattle.formats.specs.Tables.{values_from, choices_from, initial_from, initial_count_from, heading_shape, heading_length, heading_says}
 use Rattle.formats.proofs.PieceTests.{given, given-fault, given-ok, given-err}
 use Rattle.sequences.proofs.table.heading_from.Goals as goal
 use Rattle.sequences.proofs.RecordsSame.{same-heading}

@@ -1,13 +1,12 @@
-use Rattle.std.proofs.Common.{◌≡◌, ℕ, ◌≤◌, true, ◌&&◌, leb, List, map, length, drop, Ok, Err, sym, refl, ap, ◌∙◌, subst}
+use Rattle.std.proofs.Common.{◌≡◌, ℕ, ◌≤◌, ◌&&◌, leb, length, drop, Ok, sym, ap, ◌∙◌, subst}
 use Rattle.std.proofs.lemmas.Bool.{and_parts, leb-true}
 use Rattle.rows.proofs.Chains.{goes, check-true}
-use Rattle.records.specs.declared.records.Transition.{Transition}
 use Rattle.records.specs.declared.shape.Shape.{Shape}
-use Rattle.records.specs.Held.{held, behind, room}
+use Rattle.records.specs.Held.{held, room}
 use Rattle.records.specs.Limits.{most_values, most_transitions, most_places, most_inners}
 use Rattle.formats.specs.Pieces.{pieces_from, piece_end}
-use Rattle.records.specs.Records.{HeadingData, TransitionData, heading_of, shape_of}
-use Rattle.formats.specs.Tables.{heading_shape, heading_rest, heading_at, transitions_at, transitions_say, content_says, table_at, memory_says}
+use Rattle.records.specs.Records.{shape_of}
+use Rattle.formats.specs.Tables.{heading_shape, heading_rest, transitions_at, transitions_say, content_says, table_at, memory_says}
 use Rattle.formats.proofs.HeadingLimits.{heading-values}
 use Rattle.formats.proofs.PieceTests.{given, given-ok}
 use Rattle.formats.proofs.TableParts.{Parts, content-parts}

@@ -1,5 +1,4 @@
 -- The laws of the format, for the bytes that are read.
-use Rattle.std.proofs.Common.{rules}
 use Rattle.formats.proofs.FaultPlaces.{placed-open}
 use Rattle.formats.proofs.TablesWritten.{table-exactly}
 use Rattle.records.specs.Held.{room}

@@ -1,9 +1,9 @@
-use Rattle.std.proofs.Common.{◌≡◌, ℕ, ◌-◌, ◌<◌, ◌≤◌, length, Ok, sym, refl, ap, ◌∙◌, arith}
+use Rattle.std.proofs.Common.{◌≡◌, ℕ, ◌-◌, ◌≤◌, length, ap, ◌∙◌, arith}
 use Rattle.std.proofs.lemmas.Result.{err_from_is_err_and}
 use Rattle.rows.specs.Bytes.{word_at}
 use Rattle.formats.specs.Pieces.{piece_at, piece_end}
 use Rattle.records.specs.Records.{TransitionData}
-use Rattle.formats.specs.Tables.{number_from, next_says, transitions_say}
+use Rattle.formats.specs.Tables.{number_from, transitions_say}
 use Rattle.formats.proofs.PieceTests.{given-ok, given-err}
 use Rattle.formats.proofs.TransitionSteps.{next-room, next-ends, say-fault, say-more, say-all}
 use Rattle.sequences.proofs.table.transitions_test.Goals as goal

@@ -1,11 +1,9 @@
-use Rattle.std.proofs.Common.{◌≡◌, ℕ, ◌^◌, ◌<◌, List, length, Some, None, Ok, Err, Option, Result, sym, refl, ap, ◌∙◌, subst, rules}
+use Rattle.std.proofs.Common.{ℕ, ◌^◌, ◌<◌, List, length, Ok, Option, sym, ap, ◌∙◌, subst, rules}
 use Rattle.std.proofs.lemmas.Result.{err_from_is_err_and}
 use Rattle.std.specs.Option.{option_map}
-use Rattle.rows.specs.declared.fault.Fault.{Fault}
 use Rattle.sequences.specs.declared.witness.WitnessPiece.{WitnessPiece}
 use Rattle.sequences.specs.Handed.{ReaderData, reader_of, progress_of, data_of, passed_at}
 use Rattle.formats.specs.Pieces.{pieces_from}
-use Rattle.formats.specs.Witnesses.{PartData, Progress, further_by}
 use Rattle.sequences.proofs.HandedSteps.{Given, some-handed, none-handed, fault-handed, part-located, comes-on}
 use Rattle.formats.proofs.PieceTests.{given, given-fault, given-ok, given-err}
 use Rattle.sequences.proofs.WitnessWalks.{Walking, walking-begins, walking-lost, walking-done, walking-refused, walking-more}

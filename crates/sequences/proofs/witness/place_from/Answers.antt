@@ -1,19 +1,18 @@
-use Rattle.std.proofs.Common.{◌≡◌, ℕ, ◌+◌, ◌-◌, ◌*◌, Bool, eqb, ltb, length, sym, refl, ap, ◌∙◌}
+use Rattle.std.proofs.Common.{◌≡◌, ℕ, ◌+◌, ◌-◌, ◌*◌, eqb, ltb, length, ap, ◌∙◌}
 use Rattle.std.proofs.lemmas.Result.{err_from_is_err_and}
-use Rattle.rows.specs.declared.fault.Fault.{Fault}
 use Rattle.rows.specs.declared.fault.FaultKind.TheVariants.{WitnessLength, WitnessCount, WitnessNumber, WitnessWritten}
 use Rattle.rows.specs.Bytes.{word_at}
-use Rattle.rows.specs.Faults.{Said, check}
+use Rattle.rows.specs.Faults.{check}
 use Rattle.rows.proofs.Chains.{stops, goes}
 use Rattle.records.specs.declared.shape.Shape.{Shape}
 use Rattle.records.specs.Bounded.{listed}
-use Rattle.records.specs.Limits.{most_places, most_inners, most_entries}
-use Rattle.formats.specs.Pieces.{byte_at, fault_at, rest_from, reach_says, long_says, count_says, above_says}
+use Rattle.records.specs.Limits.{most_places, most_entries}
+use Rattle.formats.specs.Pieces.{byte_at, reach_says, long_says, count_says, above_says}
 use Rattle.formats.specs.StoredRows.{rows_at, rows_say}
 use Rattle.records.specs.Slots.{over_values, stride}
-use Rattle.formats.specs.Witnesses.{kind_from, number_from, count_from, rows_from, last_of, plan_count_from, plan_from, entries, entry_stride, entry_from, tested_at, tested_say, place_length, place_says, choices_from, inner_length, inner_says}
+use Rattle.formats.specs.Witnesses.{number_from, count_from, rows_from, plan_count_from, plan_from, entries, entry_stride, entry_from, tested_at, tested_say, place_says}
 use Rattle.formats.proofs.PieceTests.{given, given-fault, given-ok, given-err}
-use Rattle.sequences.proofs.RecordsSame.{same_place, same-inner}
+use Rattle.sequences.proofs.RecordsSame.{same_place}
 use Rattle.sequences.proofs.witness.place_from.Goals as goal
 
 pub returns-in_err-require : goal.returns-in_err-require

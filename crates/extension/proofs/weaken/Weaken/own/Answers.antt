@@ -1,4 +1,4 @@
-use Rattle.std.proofs.Common.{sym, rules}
+use Rattle.std.proofs.Common.{sym}
 use Rattle.extension.specs.WeakenLaws.{slack-yes}
 use Rattle.extension.proofs.weaken.Weaken.own.Goals as goal
 

@@ -1,4 +1,4 @@
-use Rattle.std.proofs.Common.{◌≡◌, Err, sym, refl, ap, ◌∙◌}
+use Rattle.std.proofs.Common.{Err, sym, refl, ap, ◌∙◌}
 use Rattle.rows.specs.declared.fault.Fault.{Fault}
 use Rattle.methods.proofs.Asked.{asked-many, asked-within, exactly}
 use Rattle.extension.specs.ZeroGoalLaws.{zero-goal-only}

@@ -1,8 +1,7 @@
-use Rattle.std.proofs.Common.{◌≡◌, Ok, Err, sym, refl, ap, ◌∙◌}
+use Rattle.std.proofs.Common.{◌≡◌, Err, refl, ap, ◌∙◌}
 use Rattle.std.proofs.lemmas.Result.{err_from_is_err_and}
 use Rattle.rows.specs.declared.fault.Fault.{Fault}
-use Rattle.rows.specs.Faults.{Said}
-use Rattle.methods.specs.Questions.{Meaning, asked}
+use Rattle.methods.specs.Questions.{asked}
 use Rattle.methods.specs.LooksUp.{search_says, look_up_says, LookUpYes}
 use Rattle.methods.proofs.StatedFaults.{look-up-faults}
 use Rattle.methods.proofs.Asked.{asked-many, asked-stops, asked-goes, exactly}

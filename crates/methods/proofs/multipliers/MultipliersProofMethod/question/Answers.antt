@@ -1,9 +1,8 @@
-use Rattle.std.proofs.Common.{◌≡◌, Ok, Err, sym, refl, ap, ◌∙◌}
+use Rattle.std.proofs.Common.{◌≡◌, Err, sym, refl, ap, ◌∙◌}
 use Rattle.std.proofs.lemmas.Result.{err_from_is_err_and}
 use Rattle.rows.specs.declared.fault.Fault.{Fault}
-use Rattle.rows.specs.Faults.{Said}
 use Rattle.methods.specs.OpeningLaws.{opening-yes}
-use Rattle.methods.specs.Questions.{Meaning, asked}
+use Rattle.methods.specs.Questions.{asked}
 use Rattle.methods.specs.Sums.{sums_say, multipliers_say, MultipliersYes}
 use Rattle.methods.proofs.StatedFaults.{multipliers-faults}
 use Rattle.methods.proofs.Asked.{asked-many, asked-stops, asked-goes, exactly}

@@ -1,7 +1,6 @@
-use Rattle.std.proofs.Common.{◌≡◌, List, Ok, Err, sym, refl, ap, ◌∙◌, subst}
+use Rattle.std.proofs.Common.{◌≡◌, Ok, Err, sym, refl, ap, ◌∙◌}
 use Rattle.std.proofs.lemmas.Result.{err_from_is_err_and}
 use Rattle.rows.specs.declared.fault.Fault.{Fault}
-use Rattle.rows.specs.declared.numbers.Numbers.{Numbers}
 use Rattle.methods.specs.declared.layer.FirstByte.{FirstByte}
 use Rattle.methods.specs.Splits.{split_own, split_says, SplitYes}
 use Rattle.methods.specs.Questions.{asked}

@@ -1,7 +1,7 @@
-use Rattle.std.proofs.Common.{◌≡◌, sym, ap, ◌∙◌}
+use Rattle.std.proofs.Common.{sym, ap, ◌∙◌}
 use Rattle.semantics.specs.Enumerated.{question_of}
 use Rattle.obligations.specs.Questions.{table_of, witness_of}
-use Rattle.obligations.proofs.RelatedQuestions.{Answered, answered}
+use Rattle.obligations.proofs.RelatedQuestions.{answered}
 use Rattle.obligations.proofs.question.posing.question_of.Goals as goal
 
 pub returns-in-Consecution : goal.returns-in-Consecution

@@ -1,11 +1,9 @@
-use Rattle.std.proofs.Common.{◌≡◌, ℕ, ◌<◌, List, [], ◌∷◌, ◌++◌, Ok, Err, Result, sym, refl, ap, ◌∙◌}
-use Rattle.rows.specs.declared.fault.Fault.{Fault}
-use Rattle.sequences.specs.declared.witness.WitnessPiece.{WitnessPiece}
+use Rattle.std.proofs.Common.{ℕ, [], ◌∷◌, ◌++◌, sym, refl, ap, ◌∙◌}
 use Rattle.records.specs.Bounded.{listed}
 use Rattle.sequences.specs.Handed.{data_of, progress_of}
 use Rattle.formats.specs.Pieces.{giving}
 use Rattle.records.specs.Records.{PlaceData, InnerData}
-use Rattle.formats.specs.Witnesses.{PartData, Progress, RecordData, PlaceRecord, InnerRecord, body_by, record_by, further_by}
+use Rattle.formats.specs.Witnesses.{PartData, PlaceRecord, InnerRecord, body_by, record_by, further_by}
 use Rattle.records.proofs.Fronts.{took-held}
 use Rattle.formats.proofs.PieceTests.{given, given-ok}
 use Rattle.sequences.proofs.RecordsSame.{same-progress}

@@ -1,11 +1,10 @@
-use Rattle.std.proofs.Common.{◌≡◌, ℕ, ◌+◌, ◌<◌, List, length, Ok, Err, sym, refl, ap, ◌∙◌}
+use Rattle.std.proofs.Common.{ℕ, ◌+◌, length, ap, ◌∙◌}
 use Rattle.std.proofs.lemmas.Result.{err_from_is_err_and}
-use Rattle.rows.specs.Faults.{Said}
 use Rattle.rows.proofs.Chains.{stops, goes}
-use Rattle.sequences.specs.Handed.{reader_of, standing, piece_of, data_of}
-use Rattle.formats.specs.Pieces.{rest_from, piece_end}
-use Rattle.formats.specs.Walks.{PieceData, piece_data}
-use Rattle.formats.specs.Witnesses.{PartData, part_of, kind_says}
+use Rattle.sequences.specs.Handed.{reader_of}
+use Rattle.formats.specs.Pieces.{rest_from}
+use Rattle.formats.specs.Walks.{piece_data}
+use Rattle.formats.specs.Witnesses.{part_of, kind_says}
 use Rattle.sequences.proofs.HandedSteps.{handed-none, passed_none, handed-fault, passed-fault, handed-some, passed-some}
 use Rattle.formats.proofs.PieceTests.{given-ok, given-err}
 use Rattle.sequences.proofs.RecordsSame.{same-piece, same-reader}
