@@ -5,7 +5,7 @@ use Rattle.std.proofs.lemmas.List.FromFn.{length-map-range_with_len, get_or-map-
 use Rattle.std.proofs.ByRecursion.{All-push}
 use Rattle.std.proofs.lemmas.List.{length-append}
 use Rattle.std.proofs.lemmas.Bool.{lt-ltb, le-ltb, ltb-true, and_parts, cases_lt}
-use Rattle.std.specs.List.{AllByRecursion as All}
+use Rattle.std.specs.List.{AllByRecursion}
 use Rattle.rows.specs.declared.fault.FaultKind.TheVariants.{AddedNumbers, AddedRowsFull}
 use Rattle.rows.specs.declared.limits.Limit.TheVariants.{WrittenNumber}
 use Rattle.rows.specs.declared.numbers.Numbers.{Numbers}
@@ -30,11 +30,11 @@ use Rattle.cases.proofs.Steps.{numbers-within}
 -- the first record with a number, changed
 module _ {X : Type 0} (num : X → ℕ) (n : ℕ) (f : X → X) where
   -- what holds of each record and of the changed one holds of each afterwards
-  pub changed-all : (P : X → Type 0) (xs : List X) → All P xs → ((x : X) → first_with num n xs ≡ Some x → P x → P (f x)) → All P (changed_first num n f xs)
+  pub changed-all : (P : X → Type 0) (xs : List X) → AllByRecursion P xs → ((x : X) → first_with num n xs ≡ Some x → P x → P (f x)) → AllByRecursion P (changed_first num n f xs)
   changed-all P [] a h = tt
   changed-all P (x ∷ xs) a h = from (eqb (num x) n) h (λ k. changed-all P xs a.1 k)
     where
-      from : (b : Bool) → ((y : X) → cond b (Some x) (first_with num n xs) ≡ Some y → P y → P (f y)) → (((y : X) → first_with num n xs ≡ Some y → P y → P (f y)) → All P (changed_first num n f xs)) → All P (cond b (f x ∷ xs) (x ∷ changed_first num n f xs))
+      from : (b : Bool) → ((y : X) → cond b (Some x) (first_with num n xs) ≡ Some y → P y → P (f y)) → (((y : X) → first_with num n xs ≡ Some y → P y → P (f y)) → AllByRecursion P (changed_first num n f xs)) → AllByRecursion P (cond b (f x ∷ xs) (x ∷ changed_first num n f xs))
       from true k r = (k x refl a.0, a.1)
       from false k r = (a.0, r k)
 
@@ -177,7 +177,7 @@ module _ (table : TableData) (w : WitnessData) (number : ℕ) (numbers : List �
           inners = valid.inners;
           inners-rising = valid.inners-rising;
           plans-fit = changed-all (λ (x : PlaceData). x.number) number strengthened_by (PlanFits table.transitions strengthened) w.places valid.plans-fit (λ x f v. v);
-          inners-fit = subst (λ (ns : List ℕ). All (λ (i : InnerData). (t : TransitionData) × Transition-is table.transitions i.number t × (among t.start ns ≡ true) × (among t.target ns ≡ true)) w.inners) (sym places-numbered) valid.inners-fit;
+          inners-fit = subst (λ (ns : List ℕ). AllByRecursion (λ (i : InnerData). (t : TransitionData) × Transition-is table.transitions i.number t × (among t.start ns ≡ true) × (among t.target ns ≡ true)) w.inners) (sym places-numbered) valid.inners-fit;
         }
 
     pub restricted-valid : (i : InnerData) → inner_with w number ≡ Some i → add_told shape most_restrictions i.restrictions numbers ≡ Ok tt → ValidWitness table.transitions shape restricted
@@ -196,7 +196,7 @@ module _ (table : TableData) (w : WitnessData) (number : ℕ) (numbers : List �
             choices = v.choices;
           });
           inners-rising = subst (Rising 0) (sym inners-numbered) valid.inners-rising;
-          plans-fit = subst (λ (ns : List ℕ). All (PlansIn ns) w.places) (sym inners-numbered) valid.plans-fit;
+          plans-fit = subst (λ (ns : List ℕ). AllByRecursion (PlansIn ns) w.places) (sym inners-numbered) valid.plans-fit;
           inners-fit = changed-all (λ (x : InnerData). x.number) number restricted_by (InnerFits table.transitions restricted) w.inners valid.inners-fit (λ x f v. v);
         }
       where
@@ -205,4 +205,4 @@ module _ (table : TableData) (w : WitnessData) (number : ℕ) (numbers : List �
         EntryIn ns place k = ((t : TransitionData) × Transition-is table.transitions k t × (t.start ≡ place)) × (among k ns ≡ true)
 
         PlansIn : List ℕ → PlaceData → Type 0
-        PlansIn ns p = All (λ x. EntryIn ns p.number x.transition) p.tested × EntryIn ns p.number p.last
+        PlansIn ns p = AllByRecursion (λ x. EntryIn ns p.number x.transition) p.tested × EntryIn ns p.number p.last

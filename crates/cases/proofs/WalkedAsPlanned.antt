@@ -6,7 +6,7 @@ use borrow.Author.Differences.{le-true, true_is_le}
 use Rattle.std.proofs.lemmas.List.{length-map, get_or-map}
 use Rattle.std.proofs.lemmas.Int.{ints}
 use Rattle.std.proofs.lemmas.Bool.{and_parts, and_from, both_ways, cases_eq, cases_lt, cond_both}
-use Rattle.std.specs.List.{AllByRecursion as All}
+use Rattle.std.specs.List.{AllByRecursion}
 use Rattle.rows.specs.declared.limits.Limit.TheVariants.{StateValue}
 use Rattle.rows.specs.Limits.{magnitude_of, within}
 use Rattle.records.specs.Records.{TableData, WitnessData}
@@ -32,13 +32,13 @@ in-range z e =
 range-passes : (z : ℤ) → InRange z → within (magnitude_of StateValue) z ≡ true
 range-passes z r = and_from (le_z (neg_ℤ (pos (magnitude_of StateValue))) z) (le_z z (pos (magnitude_of StateValue))) (le-passes _ _ r.least) (le-passes _ _ r.most)
 
-all-range : (zs : List ℤ) → all_within (magnitude_of StateValue) zs ≡ true → All InRange zs
+all-range : (zs : List ℤ) → all_within (magnitude_of StateValue) zs ≡ true → AllByRecursion InRange zs
 all-range [] e = tt
 all-range (z ∷ zs) e =
     let b = and_parts (within (magnitude_of StateValue) z) (all_within (magnitude_of StateValue) zs) e in
     (in-range z b.0, all-range zs b.1)
 
-all-passes : (zs : List ℤ) → All InRange zs → all_within (magnitude_of StateValue) zs ≡ true
+all-passes : (zs : List ℤ) → AllByRecursion InRange zs → all_within (magnitude_of StateValue) zs ≡ true
 all-passes [] a = refl
 all-passes (z ∷ zs) a = and_from (within (magnitude_of StateValue) z) (all_within (magnitude_of StateValue) zs) (range-passes z a.0) (all-passes zs a.1)
 

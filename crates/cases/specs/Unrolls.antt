@@ -1,7 +1,7 @@
 -- What unroll promises, as a law over the plan's run: the states that it writes are those of the run, and it goes on just
 -- as long as the plan's steps stay within the limit.
 use Rattle.std.specs.Prelude.{◌≡◌, ℕ, suc, ◌≤◌, [], length, take, ℤ, pos, neg_ℤ, ◌≤ℤ◌, slice_index_or}
-use Rattle.std.specs.List.{AllByRecursion as All}
+use Rattle.std.specs.List.{AllByRecursion}
 use Rattle.rows.specs.declared.limits.Limit.TheVariants.{StateValue}
 use Rattle.rows.specs.Limits.{magnitude_of}
 use Rattle.records.specs.Records.{TableData, WitnessData}
@@ -18,8 +18,8 @@ pub record InRange (z : ℤ) : Type 0 where
 
 -- a step whose choices and new values all are
 pub record StepInRange (s : Step) : Type 0 where
-  pub choices : All InRange s.choices
-  pub values : All InRange s.after
+  pub choices : AllByRecursion InRange s.choices
+  pub values : AllByRecursion InRange s.after
 
 -- the plan makes j steps, and each stays within the limit
 pub record StaysFor (table : TableData) (witness : WitnessData) (p : Present) (j : ℕ) : Type 0 where

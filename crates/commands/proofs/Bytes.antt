@@ -1,7 +1,7 @@
 -- Hexadecimal digits: what a word writes by cases, one pair more, and the law that bytes written are read again.
 use Rattle.std.proofs.Common.{◌≡◌, ℕ, zero, suc, ◌+◌, ◌*◌, ◌/◌, ◌%◌, ◌<◌, true, false, eqb, ◌⊎◌, List, [], ◌∷◌, ◌++◌, length, get_or, drop, Ok, Err, codes, Result, sym, refl, ap, ◌∙◌, inl, inr, ⊎_elim, append_assoc, arith}
 use Rattle.std.specs.Char.{is_ascii_hexdigit, digit_value, digit_char}
-use Rattle.std.specs.List.{AllByRecursion as All}
+use Rattle.std.specs.List.{AllByRecursion}
 use Rattle.std.specs.Str.{bytes_eq}
 use Rattle.std.proofs.lemmas.Slice.Eq.{bytes_eq-Decides}
 use Rattle.std.proofs.lemmas.List.{drop_more, length-drop}
@@ -81,7 +81,7 @@ pairs-pushed bs xs ys i v h e push inv =
 char-hex : (d : ℕ) → d < 16 → is_ascii_hexdigit (digit_char d) ≡ true
 char-hex d h = grind (arith, nat_tests)
 
-all-written : (bs : List ℕ) → All (λ b. b < 256) bs → all_hex (hex_digits bs) ≡ true
+all-written : (bs : List ℕ) → AllByRecursion (λ b. b < 256) bs → all_hex (hex_digits bs) ≡ true
 all-written [] h = refl
 all-written (b ∷ bs) h =
     and_from _ _ (char-hex (b / 16) (omega (arith, h.0))) (and_from _ _ (char-hex (b % 16) (omega arith)) (all-written bs h.1))
@@ -90,7 +90,7 @@ length-written : (bs : List ℕ) → length (hex_digits bs) ≡ 2 * length bs
 length-written [] = refl
 length-written (b ∷ bs) = omega (arith, length-written bs)
 
-pairs-written : (bs : List ℕ) → All (λ b. b < 256) bs → pairs_of (hex_digits bs) ≡ bs
+pairs-written : (bs : List ℕ) → AllByRecursion (λ b. b < 256) bs → pairs_of (hex_digits bs) ≡ bs
 pairs-written [] h = refl
 pairs-written (b ∷ bs) h =
     let high = digit_value-digit_char (b / 16) (omega (arith, h.0)) in
@@ -103,7 +103,7 @@ length_pairs [] h = refl
 length_pairs (a ∷ []) h = absurd (omega arith)
 length_pairs (a ∷ b ∷ cs) h = omega (arith, length_pairs cs (omega arith))
 
-back : (bytes : List ℕ) → All (λ b. b < 256) bytes → hex_bytes (hex_text bytes) ≡ Ok bytes
+back : (bytes : List ℕ) → AllByRecursion (λ b. b < 256) bytes → hex_bytes (hex_text bytes) ≡ Ok bytes
 back [] h = hex-dash (codes "-") refl
 back (b ∷ bs) h =
     let size = length-written (b ∷ bs) in

@@ -1,6 +1,6 @@
 -- A line put together from what its words were read as.
 use Rattle.std.proofs.Common.{◌≡◌, ℕ, suc, ◌+◌, ◌-◌, ◌<◌, ◌≤◌, eqb, List, [], ◌∷◌, ◌++◌, length, get_or, take, set, ℤ, pos, IsErrAnd, None, Ok, Err, Option, Result, sym, refl, ap, ◌∙◌, ⊎_elim, arith}
-use Rattle.std.specs.List.{AllByRecursion as All}
+use Rattle.std.specs.List.{AllByRecursion}
 use Rattle.std.specs.Str.{bytes_eq}
 use Rattle.std.proofs.lemmas.Slice.Eq.{bytes_eq-Decides}
 use Rattle.std.proofs.lemmas.List.{take_more_set, take_all, take_at, get_or_at}
@@ -17,7 +17,7 @@ use Rattle.commands.specs.Read.{says_in}
 use Rattle.commands.specs.Words.{words_of}
 
 -- a word that no entry names
-pub named_none : {X : Type 0} (table : List (List ℕ × X)) (w : List ℕ) → All (λ e. w ≡ e.0 → ⊥) table → named table w ≡ None
+pub named_none : {X : Type 0} (table : List (List ℕ × X)) (w : List ℕ) → AllByRecursion (λ e. w ≡ e.0 → ⊥) table → named table w ≡ None
 named_none [] w h = refl
 named_none (e ∷ table) w h =
     cond-false (bytes_eq w e.0) _ _ (⊎_elim (λ t. absurd (h.0 ((bytes_eq-Decides w e.0).0 t))) (λ f. f) (cases_Bool (bytes_eq w e.0)))

@@ -3,7 +3,7 @@ use Rattle.std.proofs.Common.{◌≡◌, ℕ, zero, suc, ◌+◌, ◌^◌, ◌<�
 use lib.Signed.{mag}
 use Rattle.std.specs.Char.{is_ascii_digit, is_ascii_hexdigit}
 use Rattle.std.specs.Fmt.{signed_decimal}
-use Rattle.std.specs.List.{AllByRecursion as All}
+use Rattle.std.specs.List.{AllByRecursion}
 use Rattle.std.specs.Str.{all_ascii_digits, bytes_eq}
 use Rattle.std.proofs.lemmas.Fmt.{digits_decimal, decimal_nonempty}
 use Rattle.std.proofs.ByRecursion.{All-append, All-map, All-push, All-weaker}
@@ -40,7 +40,7 @@ dark [] = true
 dark (b ∷ bs) = not (separator b) && dark bs
 
 abbrev Dark : List ℕ → Type 0
-Dark w = All (λ b. separator b ≡ false) w
+Dark w = AllByRecursion (λ b. separator b ≡ false) w
 
 dark-all : (w : List ℕ) → dark w ≡ true → Dark w
 dark-all [] h = tt
@@ -101,10 +101,10 @@ word-stack (Single l b) = dark-over l (base_name b) (dark-base b)
 word-stack (Double l m b) = dark-over l _ (dark-over m (base_name b) (dark-base b)).1
 
 -- the words of a command are words
-words-nine : (name : List ℕ) (r : Numbers) → Word name → Nine r → All Word (name ∷ map signed_decimal (items_of r))
+words-nine : (name : List ℕ) (r : Numbers) → Word name → Nine r → AllByRecursion Word (name ∷ map signed_decimal (items_of r))
 words-nine name r h nine = (h, All-map Word signed_decimal (items_of r) (All-weaker _ (λ z. Word (signed_decimal z)) (λ z k. word-signed z k) (items_of r) nine.1))
 
-words-said : (l : Line) → Sayable l → All Word (line_words l)
+words-said : (l : Line) → Sayable l → AllByRecursion Word (line_words l)
 words-said nothing h = tt
 words-said (set_sheet n) h = ((omega arith, dark-all (codes "sheet") refl), (word-decimal n (omega arith), tt))
 words-said (add_fact r) h = words-nine (codes "fact") r (omega arith, dark-all (codes "fact") refl) h
@@ -114,7 +114,7 @@ words-said (make_row r) h = words-nine (codes "row") r (omega arith, dark-all (c
 words-said (ask_method s w) h = ((omega arith, dark-all (codes "ask") refl), (word-stack s, (word-hex w h.0 h.1, tt)))
 
 -- numbers that are written are read again
-numbers-written : (done zs : List ℤ) → All (λ z. mag z < 2 ^ 63) zs → numbers_after done (length zs) (map signed_decimal zs) ≡ Ok (done ++ zs)
+numbers-written : (done zs : List ℤ) → AllByRecursion (λ z. mag z < 2 ^ 63) zs → numbers_after done (length zs) (map signed_decimal zs) ≡ Ok (done ++ zs)
 numbers-written done [] h = ap Ok (sym (append-nil done))
 numbers-written done (z ∷ zs) h =
     numbers_more done (length (z ∷ zs)) (length zs) (map signed_decimal (z ∷ zs)) refl z (decimals-read z h.0)
@@ -178,10 +178,10 @@ first_small (w ∷ ws) z h = number_small w z h
 abbrev Small : ℤ → Type 0
 Small z = mag z < 2 ^ 63
 
-numbers-small : (done : List ℤ) (n : ℕ) (ws : List (List ℕ)) (zs : List ℤ) → All Small done → numbers_after done n ws ≡ Ok zs → All Small zs × (length zs ≡ length done + n)
+numbers-small : (done : List ℤ) (n : ℕ) (ws : List (List ℕ)) (zs : List ℤ) → AllByRecursion Small done → numbers_after done n ws ≡ Ok zs → AllByRecursion Small zs × (length zs ≡ length done + n)
 numbers-small done zero ws zs h e =
     let same = ended-value done zs ws e in
-    (subst (All Small) same h, sym (ap length same) ∙ sym (add-zero (length done)))
+    (subst (AllByRecursion Small) same h, sym (ap length same) ∙ sym (add-zero (length done)))
 numbers-small done (suc n) ws zs h e =
     let p = then-parts (first_number ws) (λ z. numbers_after (done ++ z ∷ []) n (rest_of ws)) zs e in
     let q = numbers-small (done ++ p.0 ∷ []) n (rest_of ws) zs (All-push Small done p.0 h (first_small ws p.0 p.1.0)) p.1.1 in
@@ -195,10 +195,10 @@ nine-small ws r h =
     let same : shape p.0 ≡ r = let e = p.1.1 in cc in
     subst Nine same (nine-shape p.0 q.0 q.1)
   where
-    nine-shape : (zs : List ℤ) → All Small zs → length zs ≡ length {A = ℤ} [] + 9 → Nine (shape zs)
+    nine-shape : (zs : List ℤ) → AllByRecursion Small zs → length zs ≡ length {A = ℤ} [] + 9 → Nine (shape zs)
     nine-shape zs small long =
         let whole : zs ≡ take 8 zs ++ get_or zs 8 (pos 0) ∷ [] = sym (take_all 9 zs (omega arith)) ∙ take_more zs 8 (pos 0) (omega arith) in
-        (length-take-le 8 zs (omega arith), subst (All Small) whole small)
+        (length-take-le 8 zs (omega arith), subst (AllByRecursion Small) whole small)
 
 -- what each command says may be said
 sheet-small : (ws : List (List ℕ)) (l : Line) → sheet_line ws ≡ Ok l → Sayable l
@@ -216,14 +216,14 @@ sheet-small ws l h =
         (λ t k. let v : m ≡ n = cc in subst (λ x. x ≤ most_rows) v (leb-true m most_rows t)) (λ _ k. refused SheetRows n k) e
     rows-small (negsuc m) n e = refused SheetRows n e
 
-ask-small : (ws : List (List ℕ)) (l : Line) → All Word ws → ask_line ws ≡ Ok l → Sayable l
+ask-small : (ws : List (List ℕ)) (l : Line) → AllByRecursion Word ws → ask_line ws ≡ Ok l → Sayable l
 unfolding ask_line
 ask-small ws l words h =
     let p = then-parts (first_method ws) (λ s. and_then (first_hex (rest_of ws)) (λ v. ended (ask_method s v) (rest_of (rest_of ws)))) l h in
     let q = then-parts (first_hex (rest_of ws)) (λ v. ended (ask_method p.0 v) (rest_of (rest_of ws))) l p.1.1 in
     subst Sayable (ended-value (ask_method p.0 q.0) l (rest_of (rest_of ws)) q.1.1) (hex-word (rest_of ws) q.0 (behind ws words) q.1.0)
   where
-    behind : (vs : List (List ℕ)) → All Word vs → All Word (rest_of vs)
+    behind : (vs : List (List ℕ)) → AllByRecursion Word vs → AllByRecursion Word (rest_of vs)
     behind [] k = tt
     behind (v ∷ vs) k = k.1
 
@@ -231,7 +231,7 @@ ask-small ws l words h =
     readable_only (Ok bs) v u k = (cc, refl)
     readable_only (Err e) v u k = refused e u k
 
-    hex-word : (vs : List (List ℕ)) (u : List ℕ) → All Word vs → first_hex vs ≡ Ok u → (0 < length u) × (is_ok (hex_bytes u) ≡ true)
+    hex-word : (vs : List (List ℕ)) (u : List ℕ) → AllByRecursion Word vs → first_hex vs ≡ Ok u → (0 < length u) × (is_ok (hex_bytes u) ≡ true)
     hex-word [] u k e = refused MissingHex u e
     hex-word (v ∷ vs) u k e =
         let p = readable_only (hex_bytes v) v u e in
@@ -243,7 +243,7 @@ nine-said f ws l say h =
     let same : f p.0 ≡ l = let e = p.1.1 in cc in
     subst Sayable same (say p.0 (nine-small ws p.0 p.1.0))
 
-by-small : (k : Keyword) (ws : List (List ℕ)) (l : Line) → All Word ws → line_by k ws ≡ Ok l → Sayable l
+by-small : (k : Keyword) (ws : List (List ℕ)) (l : Line) → AllByRecursion Word ws → line_by k ws ≡ Ok l → Sayable l
 by-small Sheet ws l words h = sheet-small ws l h
 by-small Fact ws l words h = nine-said add_fact ws l (λ r n. n) h
 by-small Goal ws l words h = nine-said set_goal ws l (λ r n. n) h
@@ -251,14 +251,14 @@ by-small Forget ws l words h = subst Sayable (ended-value forget_all l ws h) tt
 by-small Row ws l words h = nine-said make_row ws l (λ r n. n) h
 by-small Ask ws l words h = ask-small ws l words h
 
-keyed-small : (o : Option Keyword) (ws : List (List ℕ)) (l : Line) → All Word ws → keyed o ws ≡ Ok l → Sayable l
+keyed-small : (o : Option Keyword) (ws : List (List ℕ)) (l : Line) → AllByRecursion Word ws → keyed o ws ≡ Ok l → Sayable l
 keyed-small None ws l words h = refused UnknownCommand l h
 keyed-small (Some k) ws l words h = by-small k ws l words h
 
 nothing_said : (l : Line) → ◌≡◌ {A = Result Line LineError} (Ok nothing) (Ok l) → Sayable l
 nothing_said l h = let same : nothing ≡ l = cc in subst Sayable same tt
 
-from-small : (ws : List (List ℕ)) (l : Line) → All Word ws → line_from ws ≡ Ok l → Sayable l
+from-small : (ws : List (List ℕ)) (l : Line) → AllByRecursion Word ws → line_from ws ≡ Ok l → Sayable l
 from-small [] l words h = nothing_said l h
 from-small (w ∷ ws) l words h =
     cond_both (eqb (get_or w 0 0) 35) (Ok nothing) (keyed (keyword_of w) ws) (λ r. r ≡ Ok l → Sayable l)

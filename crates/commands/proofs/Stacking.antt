@@ -1,6 +1,6 @@
 -- Words cut at their slashes, by the stacks that they write, and the law that stacks written are read again.
 use Rattle.std.proofs.Common.{◌≡◌, ℕ, zero, suc, ◌<◌, Bool, true, false, cond, List, [], ◌∷◌, ◌++◌, length, get_or, Some, None, codes, Option, sym, refl, ap, ◌∙◌, subst, ⊎_elim, arith}
-use Rattle.std.specs.List.{AllByRecursion as All}
+use Rattle.std.specs.List.{AllByRecursion}
 use Rattle.std.specs.Str.{bytes_eq}
 use Rattle.std.proofs.ByRecursion.{All-from_get_or}
 use Rattle.std.proofs.lemmas.Slice.Eq.{bytes_eq-Decides}
@@ -37,11 +37,11 @@ first_piece cut (y ∷ ys) =
     (cases_Bool (cut y))
 
 -- no slash, by places
-pub no_slash : (xs : List ℕ) → ((i : ℕ) → i < length xs → get_or xs i 0 ≡ 47 → ⊥) → All (λ b. slash b ≡ false) xs
+pub no_slash : (xs : List ℕ) → ((i : ℕ) → i < length xs → get_or xs i 0 ≡ 47 → ⊥) → AllByRecursion (λ b. slash b ≡ false) xs
 no_slash xs h = All-from_get_or (λ b. slash b ≡ false) xs 0 (λ i l. ne_eqb (get_or xs i 0) 47 (h i l))
 
 -- a word with a slash: a layer over a stack
-pub stacked-over : (n : ℕ) (w top below : List ℕ) → w ≡ top ++ 47 ∷ below → All (λ b. slash b ≡ false) top → stacked (suc n) (pieces slash w) ≡ over (layer_of top) (stacked n (pieces slash below))
+pub stacked-over : (n : ℕ) (w top below : List ℕ) → w ≡ top ++ 47 ∷ below → AllByRecursion (λ b. slash b ≡ false) top → stacked (suc n) (pieces slash w) ≡ over (layer_of top) (stacked n (pieces slash below))
 stacked-over n w top below e clean =
     let p = first_piece slash below in
     ap (λ l. stacked (suc n) (pieces slash l)) e
@@ -49,7 +49,7 @@ stacked-over n w top below e clean =
     ∙ ap (λ ps. over (layer_of top) (stacked n ps)) (sym p.1.1)
 
 -- a word with none: a base
-pub stacked-base : (n : ℕ) (w : List ℕ) → All (λ b. slash b ≡ false) w → stacked n (pieces slash w) ≡ of_base (base_of w)
+pub stacked-base : (n : ℕ) (w : List ℕ) → AllByRecursion (λ b. slash b ≡ false) w → stacked n (pieces slash w) ≡ of_base (base_of w)
 stacked-base zero w clean = ap (stacked zero) (pieces_whole slash w clean)
 stacked-base (suc n) w clean = ap (stacked (suc n)) (pieces_whole slash w clean)
 

@@ -2,7 +2,7 @@
 use Rattle.std.specs.Prelude.{◌≡◌, ℕ, ◌^◌, ◌<◌, ◌≤◌, true, List, [], ◌∷◌, ◌++◌, map, length, ℤ, is_ok, Ok, codes, decimal}
 use Rattle.std.specs.Int.Signed.{mag}
 use Rattle.std.specs.Fmt.{signed_decimal}
-use Rattle.std.specs.List.{AllByRecursion as All}
+use Rattle.std.specs.List.{AllByRecursion}
 use Rattle.rows.specs.declared.numbers.Numbers.{Numbers}
 use Rattle.commands.specs.Hex.{hex_bytes}
 use Rattle.commands.specs.Lines.{Line, nothing, set_sheet, add_fact, set_goal, forget_all, make_row, ask_method, most_rows, line_of}
@@ -24,7 +24,7 @@ line_words (ask_method s w) = codes "ask" ∷ stack_text s ∷ w ∷ []
 
 -- eight coefficients and a bound, each from -2^63 to 2^63 - 1
 abbrev pub Nine : Numbers → Type 0
-Nine r = (length r.coefficients ≡ 8) × All (λ z. mag z < 2 ^ 63) (items_of r)
+Nine r = (length r.coefficients ≡ 8) × AllByRecursion (λ z. mag z < 2 ^ 63) (items_of r)
 
 -- what the arguments of a command may be
 abbrev pub Sayable : Line → Type 0

@@ -1,7 +1,7 @@
 -- A line as words: what separates them, what they are, and how they are handed out one by one.
 use Rattle.std.specs.Prelude.{◌≡◌, ℕ, ◌<◌, ◌≤◌, Bool, false, cond, not, ◌||◌, List, [], ◌∷◌, ◌++◌, length, Some, None, Option, ◌==◌, slice_index}
 use Rattle.std.specs.Borrow.{Bor}
-use Rattle.std.specs.List.{AllByRecursion as All}
+use Rattle.std.specs.List.{AllByRecursion}
 
 -- a space, a tab or a carriage return
 abbrev pub separator : ℕ → Bool
@@ -35,7 +35,7 @@ words_of line = filled (pieces separator line)
 
 -- one byte or more, and no separator
 abbrev pub Word : List ℕ → Type 0
-Word w = (0 < length w) × All (λ b. separator b ≡ false) w
+Word w = (0 < length w) × AllByRecursion (λ b. separator b ≡ false) w
 
 -- words with one space before each
 abbrev pub spaced : List (List ℕ) → List ℕ
@@ -44,8 +44,8 @@ spaced (w ∷ ws) = 32 ∷ (w ++ spaced ws)
 
 -- words that are written are read again, and only words are read
 pub record WordsRead : Type 0 where
-  pub back : (ws : List (List ℕ)) → All Word ws → words_of (spaced ws) ≡ ws
-  pub only : (line : List ℕ) → All Word (words_of line)
+  pub back : (ws : List (List ℕ)) → AllByRecursion Word ws → words_of (spaced ws) ≡ ws
+  pub only : (line : List ℕ) → AllByRecursion Word (words_of line)
 
 -- the first word was handed out, and the others are left
 abbrev pub Handed : Option (Bor (List ℕ)) → List ℕ → List ℕ → Type 0

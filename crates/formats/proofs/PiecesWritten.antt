@@ -5,7 +5,7 @@ use Rattle.std.proofs.ByRecursion.{All-take, All-drop, All-get_or, All-from_get_
 use Rattle.std.proofs.lemmas.List.{drop_all, append_assoc, append-nil, get_or-append-add, drop_more}
 use Rattle.std.proofs.lemmas.Bool.{lt-ltb, le-ltb, cond-true, cond-false, ltb-false, eq-eqb, ltb-true, eqb-true}
 use Rattle.std.proofs.lemmas.List.FromFn.{length-map-range_with_len, get_or-map-range_with_len, fill_by_all}
-use Rattle.std.specs.List.{AllByRecursion as All}
+use Rattle.std.specs.List.{AllByRecursion}
 use Rattle.rows.specs.declared.fault.FaultKind.{FaultKind}
 use Rattle.rows.specs.declared.fault.FaultKind.TheVariants.{WitnessLength, WitnessCount, WitnessNumber, WitnessWritten}
 use Rattle.rows.specs.Bytes.{word_at}
@@ -115,7 +115,7 @@ module _ (bytes : List ℕ) where
       ∙ ap (λ (x : PieceData). x ∷ ps) (sym c.0)
 
   -- each lies within the bytes
-  pub chain-within : (ps : List PieceData) (at : ℕ) → Chain bytes at ps → All (PieceWithin (length bytes)) ps
+  pub chain-within : (ps : List PieceData) (at : ℕ) → Chain bytes at ps → AllByRecursion (PieceWithin (length bytes)) ps
   chain-within [] at c = tt
   chain-within (p ∷ ps) at c =
       let l = length-take (word_at bytes at) (drop (rest_from at) bytes) in
@@ -123,7 +123,7 @@ module _ (bytes : List ℕ) where
       (subst (PieceWithin (length bytes)) (sym c.0) w, chain-within ps (piece_end bytes at) c.2)
 
   -- and has bytes
-  pub chain-bytes : AreBytes bytes → (ps : List PieceData) (at : ℕ) → Chain bytes at ps → All (λ p. AreBytes p.rest) ps
+  pub chain-bytes : AreBytes bytes → (ps : List PieceData) (at : ℕ) → Chain bytes at ps → AllByRecursion (λ p. AreBytes p.rest) ps
   chain-bytes h [] at c = tt
   chain-bytes h (p ∷ ps) at c = (
     subst (λ (x : PieceData). AreBytes x.rest) (sym c.0) (All-take (λ b. b < 256) (word_at bytes at) (drop (rest_from at) bytes) (All-drop (λ b. b < 256) (rest_from at) bytes h)),
@@ -250,12 +250,12 @@ module _ (shape : Shape) (inners : List ℕ) (offset : ℕ) (rest : List ℕ) wh
       (passes_then _ _ (above-passes WitnessNumber offset rest number_from (last_of inners) t.above) (passes_then _ _ t.rows t.choices)))))
 
 -- what holds of each element made from an index
-pub all-each : {X : Type 0} (P : X → Type 0) (f : ℕ → X) (n : ℕ) → ((i : ℕ) → i < n → P (f i)) → All P (each f n)
+pub all-each : {X : Type 0} (P : X → Type 0) (f : ℕ → X) (n : ℕ) → ((i : ℕ) → i < n → P (f i)) → AllByRecursion P (each f n)
 all-each P f n h =
     let k = length-map-range_with_len f 0 n in
     All-from_get_or P (each f n) (f 0) (λ i l. let m : i < n = omega arith in subst P (sym (get_or-map-range_with_len f 0 n i i (f 0) m (omega arith))) (h i m))
 
-pub each_all : {X : Type 0} (P : X → Type 0) (f : ℕ → X) (n : ℕ) → All P (each f n) → (i : ℕ) → i < n → P (f i)
+pub each_all : {X : Type 0} (P : X → Type 0) (f : ℕ → X) (n : ℕ) → AllByRecursion P (each f n) → (i : ℕ) → i < n → P (f i)
 each_all P f n h i l =
     let k = length-map-range_with_len f 0 n in
     subst P (get_or-map-range_with_len f 0 n i i (f 0) l (omega arith)) (All-get_or P (each f n) i (f 0) (omega arith) h)

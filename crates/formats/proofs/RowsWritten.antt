@@ -5,7 +5,7 @@ use Rattle.std.proofs.lemmas.List.FromFn.{length-range_with_len, get_or-range_wi
 use Rattle.std.proofs.ByRecursion.{All-get_or, All-from_get_or}
 use Rattle.std.proofs.lemmas.List.{length-append, get_or_append_left, get_or-append_right}
 use Rattle.std.proofs.lemmas.Bool.{cases_lt, lt-ltb, le-ltb, leb-true, and_parts, not-false}
-use Rattle.std.specs.List.{range_with_len, AllByRecursion as All}
+use Rattle.std.specs.List.{range_with_len, AllByRecursion}
 use Rattle.rows.specs.declared.fault.FaultKind.{FaultKind}
 use Rattle.rows.specs.declared.limits.Limit.TheVariants.{WrittenNumber}
 use Rattle.rows.specs.declared.numbers.Numbers.{Numbers}
@@ -223,7 +223,7 @@ no_numbers : Numbers
 no_numbers = record { coefficients = []; bound = pos 0 }
 
 -- rows read from where their bytes stand
-module _ (shape : Shape) (rows : List Numbers) (valid : All (StoredRow shape) rows) (bytes : List ℕ) (at : ℕ) (stands : Stands bytes at (rows_bytes shape rows)) where
+module _ (shape : Shape) (rows : List Numbers) (valid : AllByRecursion (StoredRow shape) rows) (bytes : List ℕ) (at : ℕ) (stands : Stands bytes at (rows_bytes shape rows)) where
   each_stands : (k : ℕ) → k < length rows → Stands bytes (at + stride shape * k) (row_bytes shape (get_or rows k no_numbers))
   each_stands k l = joined-stands (row_bytes shape) (stride shape) (row-length shape) bytes at rows stands k no_numbers l
 
@@ -240,10 +240,10 @@ module _ (shape : Shape) (rows : List Numbers) (valid : All (StoredRow shape) ro
       each-pass (λ (i : ℕ). row_says kind shape offset bytes (at + stride shape * i)) (length rows)
       (λ k l. row-standing-passes shape (get_or rows k no_numbers) (each-valid k l) bytes (at + stride shape * k) (each_stands k l) kind offset)
 
-pub rows_back : (shape : Shape) → ShapeWithin shape → (rows : List Numbers) → All (StoredRow shape) rows → (front more : List ℕ) → rows_at shape (front ++ (rows_bytes shape rows ++ more)) (length front) (length rows) ≡ rows
+pub rows_back : (shape : Shape) → ShapeWithin shape → (rows : List Numbers) → AllByRecursion (StoredRow shape) rows → (front more : List ℕ) → rows_at shape (front ++ (rows_bytes shape rows ++ more)) (length front) (length rows) ≡ rows
 rows_back shape w rows valid front more = rows-standing shape rows valid (front ++ (rows_bytes shape rows ++ more)) (length front) (stands-behind front (rows_bytes shape rows) more)
 
-pub rows_pass : (kind : FaultKind) (shape : Shape) → ShapeWithin shape → (rows : List Numbers) → All (StoredRow shape) rows → (offset : ℕ) (front more : List ℕ) → rows_say kind shape offset (front ++ (rows_bytes shape rows ++ more)) (length front) (length rows) ≡ Ok tt
+pub rows_pass : (kind : FaultKind) (shape : Shape) → ShapeWithin shape → (rows : List Numbers) → AllByRecursion (StoredRow shape) rows → (offset : ℕ) (front more : List ℕ) → rows_say kind shape offset (front ++ (rows_bytes shape rows ++ more)) (length front) (length rows) ≡ Ok tt
 rows_pass kind shape w rows valid offset front more =
     rows-standing-pass shape rows valid (front ++ (rows_bytes shape rows ++ more)) (length front) (stands-behind front (rows_bytes shape rows) more) kind offset
 
@@ -290,7 +290,7 @@ row-valid kind shape w offset bytes at e =
       written = row_within kind shape offset bytes at e;
     }
 
-pub rows-valid : (kind : FaultKind) (shape : Shape) → ShapeWithin shape → (offset : ℕ) (bytes : List ℕ) (at count : ℕ) → rows_say kind shape offset bytes at count ≡ Ok tt → All (StoredRow shape) (rows_at shape bytes at count)
+pub rows-valid : (kind : FaultKind) (shape : Shape) → ShapeWithin shape → (offset : ℕ) (bytes : List ℕ) (at count : ℕ) → rows_say kind shape offset bytes at count ≡ Ok tt → AllByRecursion (StoredRow shape) (rows_at shape bytes at count)
 rows-valid kind shape w offset bytes at count e =
     let f : ℕ → Numbers = λ i. row_at shape bytes (at + stride shape * i) in
     let n = length-map-range_with_len f 0 count in

@@ -3,7 +3,7 @@ use Rattle.std.proofs.Common.{◌≡◌, ℕ, zero, suc, ◌+◌, ◌-◌, ◌*�
 use Rattle.std.proofs.lemmas.List.FromFn.{length-map-range_with_len}
 use Rattle.std.proofs.lemmas.List.{append-nil, length-append, length-drop, drop_more, drop_all}
 use Rattle.std.proofs.lemmas.Bool.{cases_lt, lt-ltb, le-leb, eq-eqb, ltb-true, leb-true, eqb-true, and_from, and_parts, cond-true}
-use Rattle.std.specs.List.{AllByRecursion as All}
+use Rattle.std.specs.List.{AllByRecursion}
 use Rattle.rows.specs.declared.fault.FaultKind.TheVariants.{TableVersion, TableLength, TableCount, TableNumber, TableWritten}
 use Rattle.rows.specs.declared.numbers.Numbers.{Numbers}
 use Rattle.rows.specs.Bytes.{word_at}
@@ -317,7 +317,7 @@ module _ (shape : Shape) (bytes : List ℕ) (room at : ℕ) (l : at < length byt
 -- transitions read back from their bytes
 transitions-back :
     (shape : Shape) (bytes : List ℕ) (ts : List TransitionData) (room last at : ℕ)
-    → All (ValidTransition shape) ts → Rising last (map (λ x. x.number) ts) → length ts ≤ room → drop at bytes ≡ transitions_bytes shape ts
+    → AllByRecursion (ValidTransition shape) ts → Rising last (map (λ x. x.number) ts) → length ts ≤ room → drop at bytes ≡ transitions_bytes shape ts
     → (transitions_say shape bytes room last at ≡ Ok tt) × (transitions_at shape bytes room at ≡ ts)
 transitions-back shape bytes [] room last at valid rising l e =
     let n = length-drop at bytes in
@@ -351,7 +351,7 @@ says-next shape bytes (suc room) last at l e =
 -- transitions that pass are valid, and stand in the bytes they are written in
 record TransitionsOnly (shape : Shape) (bytes : List ℕ) (room last at : ℕ) (ts : List TransitionData) : Type 0 where
   count : length ts ≤ room
-  each : All (ValidTransition shape) ts
+  each : AllByRecursion (ValidTransition shape) ts
   rising : Rising last (map (λ x. x.number) ts)
   written : transitions_bytes shape ts ≡ drop at bytes
 

@@ -1,7 +1,7 @@
 -- The place of a fault of a witness is at most the bytes' length: test by test, in their order.
 use Rattle.std.proofs.Common.{◌≡◌, ℕ, zero, suc, ◌+◌, ◌-◌, ◌*◌, ◌≤◌, ◌&&◌, eqb, ltb, leb, List, [], ◌∷◌, length, Ok, arith}
 use Rattle.std.proofs.lemmas.Bool.{ltb-true, cond_both}
-use Rattle.std.specs.List.{AllByRecursion as All}
+use Rattle.std.specs.List.{AllByRecursion}
 use Rattle.rows.specs.declared.fault.FaultKind.{FaultKind}
 use Rattle.rows.specs.declared.fault.FaultKind.TheVariants.{TableCount, WitnessVersion, WitnessLength, WitnessCount, WitnessNumber, WitnessWritten, WitnessReference}
 use Rattle.rows.specs.Bytes.{word_at}
@@ -93,7 +93,7 @@ placed-reference n shape named s p l e =
     (λ _ h. placed-check n (rest_from p.offset + number_from) (inner_fits named (number_of p)) WitnessReference (let k = kind-reaches p b.0 in omega (arith, k, l)))
     b.1
 
-placed-references : (n : ℕ) (shape : Shape) (named : Named) (ps : List PieceData) (s : Progress) → All (PieceWithin n) ps → each_piece (part_says shape) further s ps ≡ Ok tt → Placed n (references_say shape named ps)
+placed-references : (n : ℕ) (shape : Shape) (named : Named) (ps : List PieceData) (s : Progress) → AllByRecursion (PieceWithin n) ps → each_piece (part_says shape) further s ps ≡ Ok tt → Placed n (references_say shape named ps)
 placed-references n shape named [] s l e = placed-ok n
 placed-references n shape named (p ∷ ps) s l e =
     let b = both (part_says shape s p) (each_piece (part_says shape) further (further s p) ps) e in

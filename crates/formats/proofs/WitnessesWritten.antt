@@ -3,7 +3,7 @@
 use Rattle.std.proofs.Common.{◌≡◌, ℕ, ◌+◌, ◌-◌, ◌<◌, ◌≤◌, true, ◌&&◌, eqb, leb, List, [], ◌∷◌, ◌++◌, map, length, drop, Some, None, Ok, Option, unwrap_or, sym, refl, ap, ◌∙◌, subst, inl, inr, arith}
 use Rattle.std.proofs.lemmas.List.{append_assoc, drop_at, drop_more, length_push}
 use Rattle.std.proofs.lemmas.Bool.{false≢true, cases_lt, le-leb, eq-eqb, leb-true, eqb-true, eqb-false, and_parts, and_from, cond_both}
-use Rattle.std.specs.List.{AllByRecursion as All}
+use Rattle.std.specs.List.{AllByRecursion}
 use Rattle.rows.specs.declared.fault.FaultKind.TheVariants.{WitnessVersion, WitnessLength, WitnessCount, WitnessReference}
 use Rattle.rows.specs.Bytes.{word_at}
 use Rattle.rows.proofs.Chains.{both, check-true}
@@ -31,8 +31,8 @@ last-push xs n =
 
 -- what is read from some pieces, behind the numbers so far
 record Held (shape : Shape) (s : Progress) (places : List PlaceData) (inners : List InnerData) (bytes : List ℕ) : Type 0 where
-  pub places-valid : All (ValidPlace shape) places
-  pub inners-valid : All (ValidInner shape) inners
+  pub places-valid : AllByRecursion (ValidPlace shape) places
+  pub inners-valid : AllByRecursion (ValidInner shape) inners
   pub places-rising : Rising (last_of s.places) (map (λ p. p.number) places)
   pub inners-rising : Rising (last_of s.inners) (map (λ x. x.number) inners)
   pub place-count : length s.places + length places ≤ most_places
@@ -115,7 +115,7 @@ held-part shape s p w bs e places inners bytes h =
     (λ i t. held_inner shape s p w bs (let n = eqb-false (byte_at p.rest kind_from) place_kind i in omega (arith, n, k)) (inner-tests shape s.inners p.offset p.rest t) places inners bytes)
     b.1 h
 
-held-pieces : (shape : Shape) → ShapeWithin shape → (ps : List PieceData) (s : Progress) → All (λ p. AreBytes p.rest) ps → Counted s → each_piece (part_says shape) further s ps ≡ Ok tt
+held-pieces : (shape : Shape) → ShapeWithin shape → (ps : List PieceData) (s : Progress) → AllByRecursion (λ p. AreBytes p.rest) ps → Counted s → each_piece (part_says shape) further s ps ≡ Ok tt
     → Held shape s (places_of shape ps) (inners_of shape ps) (joined (λ p. piece_bytes p.rest) ps)
 held-pieces shape w [] s bs c e =
     record {
@@ -206,10 +206,10 @@ module _ (transitions : List TransitionData) (w : WitnessData) where
   -- the references of a piece that passes, and of all of them, both ways
   module _ (shape : Shape) (s : Progress) (p : PieceData) (places : List PlaceData) (inners : List InnerData) (e : part_says shape s p ≡ Ok tt) where
     abbrev PlansFit : List PlaceData → Type 0
-    PlansFit xs = All (PlanFits transitions w) xs
+    PlansFit xs = AllByRecursion (PlanFits transitions w) xs
 
     abbrev InnersFit : List InnerData → Type 0
-    InnersFit ys = All (InnerFits transitions w) ys
+    InnersFit ys = AllByRecursion (InnerFits transitions w) ys
 
     reference-fits : reference_by shape naming (part_of p) ≡ Ok tt → PlansFit places × InnersFit inners → PlansFit (places_with (record_by shape (part_of p)) places) × InnersFit (inners_with (record_by shape (part_of p)) inners)
     reference-fits r h =
@@ -228,7 +228,7 @@ module _ (transitions : List TransitionData) (w : WitnessData) where
         (both (kind_says p) (body_by shape s (part_of p)) e).1
 
   references-fit : (shape : Shape) (ps : List PieceData) (s : Progress) → each_piece (part_says shape) further s ps ≡ Ok tt → references_say shape naming ps ≡ Ok tt
-      → All (PlanFits transitions w) (places_of shape ps) × All (InnerFits transitions w) (inners_of shape ps)
+      → AllByRecursion (PlanFits transitions w) (places_of shape ps) × AllByRecursion (InnerFits transitions w) (inners_of shape ps)
   references-fit shape [] s e r = (tt, tt)
   references-fit shape (p ∷ ps) s e r =
       let b = both (part_says shape s p) (each_piece (part_says shape) further (further s p) ps) e in
@@ -236,7 +236,7 @@ module _ (transitions : List TransitionData) (w : WitnessData) where
       reference-fits shape s p (places_of shape ps) (inners_of shape ps) b.0 k.0 (references-fit shape ps (further s p) b.1 k.1)
 
   references-pass : (shape : Shape) (ps : List PieceData) (s : Progress) → each_piece (part_says shape) further s ps ≡ Ok tt
-      → All (PlanFits transitions w) (places_of shape ps) → All (InnerFits transitions w) (inners_of shape ps) → references_say shape naming ps ≡ Ok tt
+      → AllByRecursion (PlanFits transitions w) (places_of shape ps) → AllByRecursion (InnerFits transitions w) (inners_of shape ps) → references_say shape naming ps ≡ Ok tt
   references-pass shape [] s e f g = refl
   references-pass shape (p ∷ ps) s e f g =
       let b = both (part_says shape s p) (each_piece (part_says shape) further (further s p) ps) e in
@@ -253,14 +253,14 @@ module _ (shape : Shape) where
   kind-passes p l a b = passes_then _ _ (reach-passes WitnessLength p.offset p.rest (kind_from + 1) l) (count-passes WitnessCount p.offset p.rest kind_from place_kind inner_kind a b)
 
   -- what is read from them
-  rests-places : (places : List PlaceData) (inners : List InnerData) (at : ℕ) → All (ValidPlace shape) places → places_of shape (pieces_for at (rests_of shape places inners)) ≡ places
+  rests-places : (places : List PlaceData) (inners : List InnerData) (at : ℕ) → AllByRecursion (ValidPlace shape) places → places_of shape (pieces_for at (rests_of shape places inners)) ≡ places
   rests-places [] [] at v = refl
   rests-places [] (x ∷ xs) at v = rests-places [] xs (rest_from at + length (inner_bytes shape x)) tt
   rests-places (p ∷ ps) inners at v =
       ap (λ (x : PlaceData). x ∷ places_of shape (pieces_for (rest_from at + length (place_bytes shape p)) (rests_of shape ps inners))) (place-back shape p v.0)
       ∙ ap (λ (xs : List PlaceData). p ∷ xs) (rests-places ps inners (rest_from at + length (place_bytes shape p)) v.1)
 
-  rests-inners : (places : List PlaceData) (inners : List InnerData) (at : ℕ) → All (ValidInner shape) inners → inners_of shape (pieces_for at (rests_of shape places inners)) ≡ inners
+  rests-inners : (places : List PlaceData) (inners : List InnerData) (at : ℕ) → AllByRecursion (ValidInner shape) inners → inners_of shape (pieces_for at (rests_of shape places inners)) ≡ inners
   rests-inners [] [] at v = refl
   rests-inners [] (x ∷ xs) at v =
       ap (λ (y : InnerData). y ∷ inners_of shape (pieces_for (rest_from at + length (inner_bytes shape x)) (rests_of shape [] xs))) (inner_back shape x v.0)
@@ -268,7 +268,7 @@ module _ (shape : Shape) where
   rests-inners (p ∷ ps) inners at v = rests-inners ps inners (rest_from at + length (place_bytes shape p)) v
 
   -- their tests pass: those of the inner transitions, and of the places in front of them
-  inners-pass : (xs : List InnerData) (s : Progress) (at : ℕ) → All (ValidInner shape) xs → Rising (last_of s.inners) (map (λ x. x.number) xs) → length s.inners + length xs ≤ most_inners
+  inners-pass : (xs : List InnerData) (s : Progress) (at : ℕ) → AllByRecursion (ValidInner shape) xs → Rising (last_of s.inners) (map (λ x. x.number) xs) → length s.inners + length xs ≤ most_inners
       → each_piece (part_says shape) further s (pieces_for at (rests_of shape [] xs)) ≡ Ok tt
   inners-pass [] s at v r c = refl
   inners-pass (x ∷ xs) s at v r c =
@@ -279,8 +279,8 @@ module _ (shape : Shape) where
       (passes_then (kind_says q) _ (kind-passes q (omega arith) (omega arith) (omega arith)) (inner-passes shape s.inners at (inner_bytes shape x) (written-inner-tests shape x v.0 s.inners at (omega arith) r.0)))
       (inners-pass xs (further s q) (rest_from at + length (inner_bytes shape x)) v.1 (subst (λ (k : ℕ). Rising k (map (λ y. y.number) xs)) (sym n) r.1) (omega (arith, l, c)))
 
-  places-pass : (ps : List PlaceData) (xs : List InnerData) (s : Progress) (at : ℕ) → All (ValidPlace shape) ps → Rising (last_of s.places) (map (λ p. p.number) ps) → length s.places + length ps ≤ most_places
-      → All (ValidInner shape) xs → Rising (last_of s.inners) (map (λ x. x.number) xs) → length s.inners + length xs ≤ most_inners → length s.inners ≡ 0
+  places-pass : (ps : List PlaceData) (xs : List InnerData) (s : Progress) (at : ℕ) → AllByRecursion (ValidPlace shape) ps → Rising (last_of s.places) (map (λ p. p.number) ps) → length s.places + length ps ≤ most_places
+      → AllByRecursion (ValidInner shape) xs → Rising (last_of s.inners) (map (λ x. x.number) xs) → length s.inners + length xs ≤ most_inners → length s.inners ≡ 0
       → each_piece (part_says shape) further s (pieces_for at (rests_of shape ps xs)) ≡ Ok tt
   places-pass [] xs s at v r c vs rs cs z = inners-pass xs s at vs rs cs
   places-pass (p ∷ ps) xs s at v r c vs rs cs z =
@@ -333,8 +333,8 @@ module _ (transitions : List TransitionData) (shape : Shape) (w : WitnessData) (
       ap (λ (x : WitnessData). references_say shape (named_in transitions (numbers_in x)) (pieces_of written)) witness-back
       ∙ ap (references_say shape (named_in transitions (numbers_in w))) pieces-back
       ∙ references-pass transitions w shape pieces begun pieces-pass
-      (subst (All (PlanFits transitions w)) (sym (rests-places shape w.places w.inners pieces_from valid.places)) valid.plans-fit)
-      (subst (All (InnerFits transitions w)) (sym (rests-inners shape w.places w.inners pieces_from valid.inners)) valid.inners-fit)
+      (subst (AllByRecursion (PlanFits transitions w)) (sym (rests-places shape w.places w.inners pieces_from valid.places)) valid.plans-fit)
+      (subst (AllByRecursion (InnerFits transitions w)) (sym (rests-inners shape w.places w.inners pieces_from valid.inners)) valid.inners-fit)
 
   content-back : content_says transitions shape written ≡ Ok tt
   unfolding content_says pieces_say

@@ -1,7 +1,7 @@
 -- What a table and a witness have to be: counts within their limits, numbers that rise, written numbers, and a witness
 -- that fits its table.
 use Rattle.std.specs.Prelude.{◌≡◌, ℕ, ◌+◌, ◌<◌, ◌≤◌, true, List, [], ◌∷◌, map, length, pos, Some, slice_index_or}
-use Rattle.std.specs.List.{AllByRecursion as All}
+use Rattle.std.specs.List.{AllByRecursion}
 use Rattle.rows.specs.declared.limits.Limit.TheVariants.{WrittenNumber}
 use Rattle.rows.specs.declared.numbers.Numbers.{Numbers}
 use Rattle.rows.specs.Limits.{columns, magnitude_of}
@@ -39,7 +39,7 @@ pub record StoredRow (shape : Shape) (row : Numbers) : Type 0 where
 -- so many rows at most
 pub record StoredRows (shape : Shape) (most : ℕ) (rows : List Numbers) : Type 0 where
   pub count : length rows ≤ most
-  pub each : All (StoredRow shape) rows
+  pub each : AllByRecursion (StoredRow shape) rows
 
 pub record ValidHeading (h : HeadingData) : Type 0 where
   pub some-value : 1 ≤ h.values
@@ -53,12 +53,12 @@ pub record ValidTransition (shape : Shape) (t : TransitionData) : Type 0 where
   pub target : IsPlace t.target
   pub guard : StoredRows (over_values shape) most_guards t.guard
   pub update-each : length t.updates ≡ shape.values
-  pub updates : All (StoredRow shape) t.updates
+  pub updates : AllByRecursion (StoredRow shape) t.updates
 
 pub record ValidTable (t : TableData) : Type 0 where
   pub heading : ValidHeading t.heading
   pub count : length t.transitions ≤ most_transitions
-  pub each : All (ValidTransition (shape_of t.heading)) t.transitions
+  pub each : AllByRecursion (ValidTransition (shape_of t.heading)) t.transitions
   pub rising : Rising 0 (map (λ x. x.number) t.transitions)
 
 pub record ValidEntry (shape : Shape) (e : EntryData) : Type 0 where
@@ -69,14 +69,14 @@ pub record ValidPlace (shape : Shape) (p : PlaceData) : Type 0 where
   pub number : IsWord p.number
   pub condition : StoredRows (over_values shape) most_conditions p.condition
   pub tested-count : length p.tested ≤ most_tested
-  pub tested : All (ValidEntry shape) p.tested
+  pub tested : AllByRecursion (ValidEntry shape) p.tested
   pub last : IsWord p.last
 
 pub record ValidInner (shape : Shape) (i : InnerData) : Type 0 where
   pub number : IsWord i.number
   pub restrictions : StoredRows shape most_restrictions i.restrictions
   pub choice-each : length i.choices ≡ shape.choices
-  pub choices : All (StoredRow (over_values shape)) i.choices
+  pub choices : AllByRecursion (StoredRow (over_values shape)) i.choices
 
 -- the table's transition with a number (the first, where the numbers do not rise)
 abbrev pub Transition-is : List TransitionData → ℕ → TransitionData → Type 0
@@ -95,7 +95,7 @@ EntryFits transitions w place n = ((t : TransitionData) × Transition-is transit
 
 -- every entry of a plan does, the last too
 abbrev pub PlanFits : List TransitionData → WitnessData → PlaceData → Type 0
-PlanFits transitions w p = All (λ e. EntryFits transitions w p.number e.transition) p.tested × EntryFits transitions w p.number p.last
+PlanFits transitions w p = AllByRecursion (λ e. EntryFits transitions w p.number e.transition) p.tested × EntryFits transitions w p.number p.last
 
 -- an inner transition is one of the table, and its start and target are listed
 abbrev pub InnerFits : List TransitionData → WitnessData → InnerData → Type 0
@@ -104,10 +104,10 @@ InnerFits transitions w i =
 
 pub record ValidWitness (transitions : List TransitionData) (shape : Shape) (w : WitnessData) : Type 0 where
   pub place-count : length w.places ≤ most_places
-  pub places : All (ValidPlace shape) w.places
+  pub places : AllByRecursion (ValidPlace shape) w.places
   pub places-rising : Rising 0 (place_numbers w)
   pub inner-count : length w.inners ≤ most_inners
-  pub inners : All (ValidInner shape) w.inners
+  pub inners : AllByRecursion (ValidInner shape) w.inners
   pub inners-rising : Rising 0 (inner_numbers w)
-  pub plans-fit : All (PlanFits transitions w) w.places
-  pub inners-fit : All (InnerFits transitions w) w.inners
+  pub plans-fit : AllByRecursion (PlanFits transitions w) w.places
+  pub inners-fit : AllByRecursion (InnerFits transitions w) w.inners

@@ -1,7 +1,7 @@
 -- Writing: the bytes of numbers, rows, tables and witnesses. Nothing in the product writes them; they say which bytes the
 -- readers take.
 use Rattle.std.specs.Prelude.{ℕ, ◌+◌, ◌-◌, ◌/◌, ◌%◌, ◌<◌, List, [], ◌∷◌, ◌++◌, length, ℤ, pos, negsuc}
-use Rattle.std.specs.List.{range_with_len, AllByRecursion as All}
+use Rattle.std.specs.List.{range_with_len, AllByRecursion}
 use Rattle.rows.specs.declared.numbers.Numbers.{Numbers}
 use Rattle.rows.specs.Limits.{columns}
 use Rattle.rows.specs.Shapes.{item_of}
@@ -14,7 +14,7 @@ use Rattle.formats.specs.Witnesses.{place_kind, inner_kind}
 
 -- each number is one that a byte holds
 abbrev pub AreBytes : List ℕ → Type 0
-AreBytes bytes = All (λ b. b < 256) bytes
+AreBytes bytes = AllByRecursion (λ b. b < 256) bytes
 
 -- a number in two bytes, the high one first
 abbrev pub word_bytes : ℕ → List ℕ

@@ -1,6 +1,6 @@
 -- What the division of the facts' sums asks, and what is made of a certificate on the way to the row that a cut adds.
 use Rattle.std.specs.Prelude.{◌≡◌, ℕ, ◌≤◌, List, length, Ok, Err, Result}
-use Rattle.std.specs.List.{AllByRecursion as All}
+use Rattle.std.specs.List.{AllByRecursion}
 use Rattle.rows.specs.declared.fault.Fault.{Fault}
 use Rattle.rows.specs.declared.limits.Limit.TheVariants.{RowNumber}
 use Rattle.rows.specs.declared.numbers.Numbers.{Numbers}
@@ -14,7 +14,7 @@ use Rattle.methods.specs.Weights.{most_weight}
 -- few facts, all of them rows
 pub record Rows (facts : List Numbers) : Type 0 where
   pub few : length facts ≤ most_facts
-  pub are-rows : All (Within (magnitude_of RowNumber)) facts
+  pub are-rows : AllByRecursion (Within (magnitude_of RowNumber)) facts
 
 -- the facts can be weighed and the divisor is in range
 pub record Divisible (certificate : List ℕ) (facts : List Numbers) : Type 0 where

@@ -3,7 +3,7 @@
 use Rattle.std.specs.Prelude.{◌≡◌, not, List, [], ◌∷◌, length, Ok, Err, nat_le, refl}
 use Rattle.std.proofs.Common.{sym, ap}
 use Rattle.std.proofs.lemmas.Bool.{leb-true, le-leb, not-false}
-use Rattle.std.specs.List.{AllByRecursion as All}
+use Rattle.std.specs.List.{AllByRecursion}
 use Rattle.rows.specs.declared.fault.Fault.{Fault}
 use Rattle.rows.specs.declared.fault.FaultKind.TheVariants.{TooManyFacts, RowNumberTooLarge}
 use Rattle.rows.specs.declared.limits.Limit.TheVariants.{RowNumber}
@@ -24,11 +24,11 @@ pub yes-row : (row : Numbers) → Within (magnitude_of RowNumber) row → Ok tt 
 unfolding first_beyond
 yes-row row w = sym (ap (unless_found RowNumberTooLarge) (none_first (beyond (magnitude_of RowNumber) row) items (λ k l. ap not (w k l))))
 
-pub rows-yes : (rows : List Numbers) → rows_say rows ≡ Ok tt → All (Within (magnitude_of RowNumber)) rows
+pub rows-yes : (rows : List Numbers) → rows_say rows ≡ Ok tt → AllByRecursion (Within (magnitude_of RowNumber)) rows
 rows-yes [] e = tt
 rows-yes (row ∷ rows) e = let p = both (row_says row) (rows_say rows) e in (row-yes row p.0, rows-yes rows p.1)
 
-pub yes-rows : (rows : List Numbers) → All (Within (magnitude_of RowNumber)) rows → Ok tt ≡ rows_say rows
+pub yes-rows : (rows : List Numbers) → AllByRecursion (Within (magnitude_of RowNumber)) rows → Ok tt ≡ rows_say rows
 yes-rows [] a = refl
 yes-rows (row ∷ rows) a = goes (row_says row) (rows_say rows) (Ok tt) (yes-row row a.0) (yes-rows rows a.1)
 

@@ -1,6 +1,6 @@
 -- The tests with which each of our methods begins: not too many facts, and all facts and the goal are rows.
 use Rattle.std.specs.Prelude.{ℕ, ◌≤◌, List, [], ◌∷◌, length, Ok, nat_le}
-use Rattle.std.specs.List.{AllByRecursion as All}
+use Rattle.std.specs.List.{AllByRecursion}
 use Rattle.rows.specs.declared.fault.FaultKind.TheVariants.{TooManyFacts, RowNumberTooLarge}
 use Rattle.rows.specs.declared.limits.Limit.TheVariants.{RowNumber}
 use Rattle.rows.specs.declared.numbers.Numbers.{Numbers}
@@ -39,7 +39,7 @@ opened rest q =
 -- when the opening tests are passed
 pub record Opened (facts : List Numbers) (goal : Numbers) : Type 0 where
   pub few : length facts ≤ most_facts
-  pub are-rows : All (Within (magnitude_of RowNumber)) facts
+  pub are-rows : AllByRecursion (Within (magnitude_of RowNumber)) facts
   pub goal-is-row : Within (magnitude_of RowNumber) goal
 
 -- at most 32 facts and no more than the sheet's rows, and all facts and the goal are rows

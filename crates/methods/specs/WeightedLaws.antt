@@ -3,7 +3,7 @@
 use Rattle.std.specs.Prelude.{◌≡◌, ℕ, zero, suc, ◌+◌, ◌<◌, ◌≤◌, List, [], ◌∷◌, get_or, ℤ, pos, ◌+ℤ◌, ◌*ℤ◌, ◌≤ℤ◌, slice_index_or, refl}
 use Rattle.std.proofs.Common.{sym, ap, subst, ◌∙◌, arith}
 use Rattle.std.proofs.lemmas.Int.{ints}
-use Rattle.std.specs.List.{AllByRecursion as All}
+use Rattle.std.specs.List.{AllByRecursion}
 use Rattle.rows.specs.declared.numbers.Numbers.{Numbers}
 use Rattle.rows.specs.Limits.{columns}
 use Rattle.rows.specs.Shapes.{item_of, dot_to}
@@ -49,7 +49,7 @@ add-le a b c d h k = omega (arith, ints)
 
 -- a point that meets all facts meets their weighted sum
 pub sum-met : (n : ℕ) → n ≤ columns → (bytes : List ℕ) (at : ℕ) (rows : List Numbers) (p : List ℤ) →
-    All (λ row. dot_to n row.coefficients p ≤ℤ row.bound) rows → columns_to n bytes at rows p ≤ℤ weighted columns bytes at rows
+    AllByRecursion (λ row. dot_to n row.coefficients p ≤ℤ row.bound) rows → columns_to n bytes at rows p ≤ℤ weighted columns bytes at rows
 sum-met n l bytes at [] p m = let h = no-facts n bytes at p in omega (arith, ints, h)
 sum-met n l bytes at (row ∷ rows) p m =
     let h = times-le (word_at bytes at) _ _ m.0 in

@@ -1,6 +1,6 @@
 -- Rows over unlimited whole numbers: their items, and what it is to meet one at a point.
 use Rattle.std.specs.Prelude.{◌≡◌, ℕ, zero, suc, ◌<◌, Bool, true, cond, not, List, map, ℤ, pos, ◌+ℤ◌, ◌-ℤ◌, ◌*ℤ◌, neg_ℤ, ◌≤ℤ◌, Option, nat_lt, slice_index_or}
-use Rattle.std.specs.List.{AllByRecursion as All}
+use Rattle.std.specs.List.{AllByRecursion}
 use Rattle.rows.specs.declared.numbers.Numbers.{Numbers}
 use Rattle.rows.specs.Limits.{columns, items, within}
 use Rattle.rows.specs.Firsts.{first_below}
@@ -35,7 +35,7 @@ abbrev pub Meets : List ℤ → Numbers → Type 0
 Meets point row = dot row.coefficients point ≤ℤ row.bound
 
 abbrev pub MeetsAll : List ℤ → List Numbers → Type 0
-MeetsAll point rows = All (Meets point) rows
+MeetsAll point rows = AllByRecursion (Meets point) rows
 
 -- the opposite of "a at most b": "−a at most −b − 1"
 abbrev pub opposite_of : Numbers → Numbers

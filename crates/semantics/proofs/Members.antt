@@ -1,7 +1,7 @@
 -- Elements of lists: what holds of each, what stands at a place, and the one with a number where numbers rise.
 use Rattle.std.proofs.Common.{◌≡◌, ℕ, zero, suc, ◌<◌, Bool, true, false, cond, eqb, List, [], ◌∷◌, map, Some, None, Option, sym, refl, ap, ◌∙◌, subst, inl, inr, arith}
 use Rattle.std.proofs.lemmas.Bool.{eq-eqb, ne_eqb, eqb-true, false≢true, cond-true, cond-false}
-use Rattle.std.specs.List.{AllByRecursion as All}
+use Rattle.std.specs.List.{AllByRecursion}
 use Rattle.records.specs.Lists.{at, first_with, among}
 use Rattle.formats.specs.Valid.{Rising}
 use Rattle.semantics.specs.Runs.{Member}
@@ -14,12 +14,12 @@ pub same_some : {X : Type 0} (x y : X) → ◌≡◌ {A = Option X} (Some x) (So
 same_some x y e = cc
 
 -- what holds of each element
-pub all-member : {X : Type 0} (P : X → Type 0) (xs : List X) (x : X) → All P xs → Member x xs → P x
+pub all-member : {X : Type 0} (P : X → Type 0) (xs : List X) (x : X) → AllByRecursion P xs → Member x xs → P x
 all-member P [] x a m = absurd m
 all-member P (y ∷ ys) x a (inl e) = subst P e a.0
 all-member P (y ∷ ys) x a (inr m) = all-member P ys x a.1 m
 
-pub all-from-members : {X : Type 0} (P : X → Type 0) (xs : List X) → ((x : X) → Member x xs → P x) → All P xs
+pub all-from-members : {X : Type 0} (P : X → Type 0) (xs : List X) → ((x : X) → Member x xs → P x) → AllByRecursion P xs
 all-from-members P [] f = tt
 all-from-members P (x ∷ xs) f = (f x (inl refl), all-from-members P xs (λ y m. f y (inr m)))
 

@@ -3,7 +3,7 @@
 use Rattle.std.proofs.Common.{◌≡◌, ℕ, suc, Bool, true, false, cond, List, [], ◌∷◌, ℤ, refl, ap, arith}
 use Rattle.std.proofs.lemmas.Int.{ints}
 use Rattle.std.proofs.lemmas.Bool.{cond_both}
-use Rattle.std.specs.List.{AllByRecursion as All}
+use Rattle.std.specs.List.{AllByRecursion}
 use Rattle.rows.specs.declared.numbers.Numbers.{Numbers}
 use Rattle.rows.specs.Shapes.{Meets, MeetsAll, opposite_of}
 use Rattle.rows.proofs.Opposites.{opposite-turns}
@@ -19,7 +19,7 @@ pub test-not-met : (point : List ℤ) (row : Numbers) → meets point row ≡ fa
 test-not-met point row e m = grind (arith, ints)
 
 -- what holds of every entry's transition holds of the planned one
-pub planned-fits : (P : ℕ → Type 0) (point : List ℤ) (entries : List EntryData) (last : ℕ) → All (λ e. P e.transition) entries → P last → P (planned point entries last)
+pub planned-fits : (P : ℕ → Type 0) (point : List ℤ) (entries : List EntryData) (last : ℕ) → AllByRecursion (λ e. P e.transition) entries → P last → P (planned point entries last)
 planned-fits P point [] last a l = l
 planned-fits P point (e ∷ es) last a l =
     cond_both (meets point e.test) e.transition (planned point es last) P (λ _. a.0) (λ _. planned-fits P point es last a.1 l)

@@ -2,7 +2,7 @@
 use Rattle.std.proofs.Common.{◌≡◌, ◌+◌, List, length, get_or, ℤ, pos, ◌+ℤ◌, ◌*ℤ◌, ◌≤ℤ◌, sym, ap, ◌∙◌, subst, arith}
 use lib.IntN.{+ℤ_idr, zero-*ℤ}
 use Rattle.std.proofs.lemmas.Int.{ints}
-use Rattle.std.specs.List.{AllByRecursion as All}
+use Rattle.std.specs.List.{AllByRecursion}
 use Rattle.rows.specs.declared.numbers.Numbers.{Numbers}
 use Rattle.rows.specs.Shapes.{dot, Meets, MeetsAll}
 use Rattle.records.specs.declared.shape.Shape.{Shape}
@@ -35,7 +35,7 @@ module _ (shape : Shape) (row : Numbers) (stored : StoredRow (over_values shape)
 
 -- rows that a state meets are met with any choices
 pub holds-with :
-    (shape : Shape) (rows : List Numbers) → All (StoredRow (over_values shape)) rows → (state choices : List ℤ) → length state ≡ most_values → Holds state rows → MeetsAll (point_of state choices) rows
+    (shape : Shape) (rows : List Numbers) → AllByRecursion (StoredRow (over_values shape)) rows → (state choices : List ℤ) → length state ≡ most_values → Holds state rows → MeetsAll (point_of state choices) rows
 holds-with shape rows stored state choices sized met =
     all-from-members (Meets (point_of state choices)) rows
     (λ row m. meets-with shape row (all-member (StoredRow (over_values shape)) rows row stored m) state choices sized (all-member (Meets (at_rest state)) rows row met m))

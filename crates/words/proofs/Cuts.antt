@@ -1,6 +1,6 @@
 -- Texts cut into pieces and lines cut into words, put together from their parts.
 use Rattle.std.proofs.Common.{◌≡◌, ℕ, ◌<◌, Bool, true, false, List, [], ◌∷◌, ◌++◌, length, get_or, take, drop, sym, refl, ap, ◌∙◌, subst, ⊎_elim, append-nil, add-zero, arith}
-use Rattle.std.specs.List.{AllByRecursion as All}
+use Rattle.std.specs.List.{AllByRecursion}
 use Rattle.std.proofs.lemmas.List.{take-append-drop, length-take-le, get_or-take, get_or-drop, length-drop, drop_all, nil_from_length}
 use Rattle.std.proofs.ByRecursion.{All-from_get_or}
 use Rattle.std.proofs.lemmas.Bool.{cond-true, cond-false, cond_both, both_ways, cases_lt}
@@ -8,12 +8,12 @@ use Rattle.words.specs.Words.{separator, Front, onto, pieces, filled, words_of, 
 
 module _ (cut : ℕ → Bool) where
   -- a text that is not cut
-  pub pieces_whole : (xs : List ℕ) → All (λ b. cut b ≡ false) xs → pieces cut xs ≡ xs ∷ []
+  pub pieces_whole : (xs : List ℕ) → AllByRecursion (λ b. cut b ≡ false) xs → pieces cut xs ≡ xs ∷ []
   pieces_whole [] h = refl
   pieces_whole (x ∷ xs) h = cond-false (cut x) _ _ h.0 ∙ ap (onto x) (pieces_whole xs h.1)
 
   -- a text up to its first cut
-  pub pieces-at : (xs ys : List ℕ) (c : ℕ) → All (λ b. cut b ≡ false) xs → cut c ≡ true → pieces cut (xs ++ c ∷ ys) ≡ xs ∷ pieces cut ys
+  pub pieces-at : (xs ys : List ℕ) (c : ℕ) → AllByRecursion (λ b. cut b ≡ false) xs → cut c ≡ true → pieces cut (xs ++ c ∷ ys) ≡ xs ∷ pieces cut ys
   pieces-at [] ys c h e = cond-true (cut c) _ _ e
   pieces-at (x ∷ xs) ys c h e = cond-false (cut x) _ _ h.0 ∙ ap (onto x) (pieces-at xs ys c h.1 e)
 
@@ -22,7 +22,7 @@ filled-some [] ps h = absurd (omega arith)
 filled-some (b ∷ bs) ps h = refl
 
 -- separators in front make no word
-pub words-blank : (xs ys : List ℕ) → All (λ b. separator b ≡ true) xs → words_of (xs ++ ys) ≡ words_of ys
+pub words-blank : (xs ys : List ℕ) → AllByRecursion (λ b. separator b ≡ true) xs → words_of (xs ++ ys) ≡ words_of ys
 unfolding words_of
 words-blank [] ys h = refl
 words-blank (x ∷ xs) ys h = ap filled (cond-true (separator x) _ _ h.0) ∙ words-blank xs ys h.1
@@ -36,7 +36,7 @@ words_more w (z ∷ zs) h e =
     ∙ filled-some w _ h.0
     ∙ ap (λ ps. w ∷ filled ps) (sym (cond-true (separator z) _ _ (e (omega arith))))
 
-front-all : {t : Bool} {bs : List ℕ} {n : ℕ} → Front t bs n → All (λ x. separator x ≡ t) (take n bs)
+front-all : {t : Bool} {bs : List ℕ} {n : ℕ} → Front t bs n → AllByRecursion (λ x. separator x ≡ t) (take n bs)
 front-all {t} {bs} {n} f =
     let long = length-take-le n bs f.within in
     All-from_get_or (λ x. separator x ≡ t) (take n bs) 0 (λ i h. ap separator (get_or-take n bs i 0 (omega arith)) ∙ f.all i (omega arith))
@@ -60,7 +60,7 @@ module _ {line text word rest : List ℕ} {b n : ℕ} (cut : Cut line text word 
       let left = ap length cut.back ∙ length-drop n text in
       let next : get_or rest 0 0 ≡ get_or text n 0 = ap (λ l. get_or l 0 0) cut.back ∙ get_or-drop n text 0 0 ∙ ap (λ i. get_or text i 0) (add-zero n) in
       let whole : text ≡ word ++ rest = sym (take-append-drop n text) ∙ (λ i. sym cut.front i ++ sym cut.back i) in
-      let solid : All (λ x. separator x ≡ false) word = subst (All (λ x. separator x ≡ false)) (sym cut.front) (front-all cut.solid) in (
+      let solid : AllByRecursion (λ x. separator x ≡ false) word = subst (AllByRecursion (λ x. separator x ≡ false)) (sym cut.front) (front-all cut.solid) in (
         after-gap ∙ ap words_of whole ∙ words_more word rest (some, solid) (λ h. ap separator next ∙ cut.solid.stops (omega arith)),
         omega (arith, ap length cut.after, length-drop b line, cut.solid.within),
       )
@@ -86,7 +86,7 @@ module _ {line text word rest : List ℕ} {b n : ℕ} (cut : Cut line text word 
       empty = nil_from_length text (⊎_elim (λ h. absurd (unlike h)) (λ h. omega arith) (cases_lt 0 (length text)))
 
 -- words that are written are read again
-back : (ws : List (List ℕ)) → All Word ws → words_of (spaced ws) ≡ ws
+back : (ws : List (List ℕ)) → AllByRecursion Word ws → words_of (spaced ws) ≡ ws
 unfolding words_of
 back [] h = refl
 back (w ∷ ws) h =
@@ -98,24 +98,24 @@ back (w ∷ ws) h =
 
 -- a piece holds nothing to cut at
 abbrev Clean : (ℕ → Bool) → List ℕ → Type 0
-Clean cut p = All (λ b. cut b ≡ false) p
+Clean cut p = AllByRecursion (λ b. cut b ≡ false) p
 
-clean-onto : (cut : ℕ → Bool) (b : ℕ) (ps : List (List ℕ)) → cut b ≡ false → All (Clean cut) ps → All (Clean cut) (onto b ps)
+clean-onto : (cut : ℕ → Bool) (b : ℕ) (ps : List (List ℕ)) → cut b ≡ false → AllByRecursion (Clean cut) ps → AllByRecursion (Clean cut) (onto b ps)
 clean-onto cut b [] e h = ((e, tt), tt)
 clean-onto cut b (p ∷ ps) e h = ((e, h.0), h.1)
 
-clean-pieces : (cut : ℕ → Bool) (bs : List ℕ) → All (Clean cut) (pieces cut bs)
+clean-pieces : (cut : ℕ → Bool) (bs : List ℕ) → AllByRecursion (Clean cut) (pieces cut bs)
 clean-pieces cut [] = (tt, tt)
 clean-pieces cut (b ∷ bs) =
-    cond_both (cut b) ([] ∷ pieces cut bs) (onto b (pieces cut bs)) (All (Clean cut))
+    cond_both (cut b) ([] ∷ pieces cut bs) (onto b (pieces cut bs)) (AllByRecursion (Clean cut))
     (λ _. (tt, clean-pieces cut bs)) (λ e. clean-onto cut b (pieces cut bs) e (clean-pieces cut bs))
 
-filled-words : (ps : List (List ℕ)) → All (Clean separator) ps → All Word (filled ps)
+filled-words : (ps : List (List ℕ)) → AllByRecursion (Clean separator) ps → AllByRecursion Word (filled ps)
 filled-words [] h = tt
 filled-words ([] ∷ ps) h = filled-words ps h.1
 filled-words ((b ∷ bs) ∷ ps) h = ((omega arith, h.0), filled-words ps h.1)
 
-only : (line : List ℕ) → All Word (words_of line)
+only : (line : List ℕ) → AllByRecursion Word (words_of line)
 unfolding words_of
 only line = filled-words (pieces separator line) (clean-pieces separator line)
 

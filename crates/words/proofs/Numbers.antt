@@ -1,7 +1,7 @@
 -- Nine numbers that are written are read again, and numbers that are read fit 64 bits.
 use Rattle.std.proofs.Common.{◌≡◌, ℕ, zero, suc, ◌+◌, ◌^◌, ◌<◌, List, [], ◌∷◌, ◌++◌, map, length, get_or, take, ℤ, pos, Some, None, Ok, Err, Option, Result, sym, refl, ap, ◌∙◌, subst, append_assoc, append-nil, add-zero, arith}
 use lib.Signed.{mag}
-use Rattle.std.specs.List.{AllByRecursion as All}
+use Rattle.std.specs.List.{AllByRecursion}
 use Rattle.std.specs.Fmt.{signed_decimal}
 use Rattle.std.proofs.lemmas.List.{length-take-le, take_all, length-append, length_push, take_more}
 use Rattle.std.proofs.lemmas.Bool.{cond_both, ltb-true}
@@ -15,7 +15,7 @@ use Rattle.words.proofs.Decimal.{decimals-read}
 use Rattle.words.proofs.Reading.{numbers_more, nine-ok, shape_is}
 
 -- numbers that are written are read again
-numbers-written : (done zs : List ℤ) → All (λ z. mag z < 2 ^ 63) zs → numbers_after done (length zs) (map signed_decimal zs) ≡ Ok (done ++ zs)
+numbers-written : (done zs : List ℤ) → AllByRecursion (λ z. mag z < 2 ^ 63) zs → numbers_after done (length zs) (map signed_decimal zs) ≡ Ok (done ++ zs)
 numbers-written done [] h = ap Ok (sym (append-nil done))
 numbers-written done (z ∷ zs) h =
     numbers_more done (length (z ∷ zs)) (length zs) (map signed_decimal (z ∷ zs)) refl z (decimals-read z h.0)
@@ -63,10 +63,10 @@ first_small (w ∷ ws) z h = number_small w z h
 abbrev Small : ℤ → Type 0
 Small z = mag z < 2 ^ 63
 
-numbers-small : (done : List ℤ) (n : ℕ) (ws : List (List ℕ)) (zs : List ℤ) → All Small done → numbers_after done n ws ≡ Ok zs → All Small zs × (length zs ≡ length done + n)
+numbers-small : (done : List ℤ) (n : ℕ) (ws : List (List ℕ)) (zs : List ℤ) → AllByRecursion Small done → numbers_after done n ws ≡ Ok zs → AllByRecursion Small zs × (length zs ≡ length done + n)
 numbers-small done zero ws zs h e =
     let same = ended-value done zs ws e in
-    (subst (All Small) same h, sym (ap length same) ∙ sym (add-zero (length done)))
+    (subst (AllByRecursion Small) same h, sym (ap length same) ∙ sym (add-zero (length done)))
 numbers-small done (suc n) ws zs h e =
     let p = then-parts (first_number ws) (λ z. numbers_after (done ++ z ∷ []) n (rest_of ws)) zs e in
     let q = numbers-small (done ++ p.0 ∷ []) n (rest_of ws) zs (All-push Small done p.0 h (first_small ws p.0 p.1.0)) p.1.1 in
@@ -80,10 +80,10 @@ only ws r h =
     let same : shape p.0 ≡ r = let e = p.1.1 in cc in
     subst Nine same (nine-shape p.0 q.0 q.1)
   where
-    nine-shape : (zs : List ℤ) → All Small zs → length zs ≡ length {A = ℤ} [] + 9 → Nine (shape zs)
+    nine-shape : (zs : List ℤ) → AllByRecursion Small zs → length zs ≡ length {A = ℤ} [] + 9 → Nine (shape zs)
     nine-shape zs small long =
         let whole : zs ≡ take 8 zs ++ get_or zs 8 (pos 0) ∷ [] = sym (take_all 9 zs (omega arith)) ∙ take_more zs 8 (pos 0) (omega arith) in
-        (length-take-le 8 zs (omega arith), subst (All Small) whole small)
+        (length-take-le 8 zs (omega arith), subst (AllByRecursion Small) whole small)
 
 pub numbers-read : NumbersRead
 numbers-read = record { back = back; only = only }

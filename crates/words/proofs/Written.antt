@@ -2,7 +2,7 @@
 use Rattle.std.proofs.Common.{◌≡◌, ℕ, suc, ◌^◌, ◌<◌, Bool, true, false, not, ◌&&◌, List, [], ◌∷◌, length, ℤ, pos, negsuc, is_ok, Ok, Err, codes, decimal, Result, sym, refl, subst, ⊎_elim, arith}
 use lib.Signed.{mag}
 use Rattle.std.specs.Char.{is_ascii_hexdigit, is_ascii_digit}
-use Rattle.std.specs.List.{AllByRecursion as All}
+use Rattle.std.specs.List.{AllByRecursion}
 use Rattle.std.specs.Str.{bytes_eq, all_ascii_digits}
 use Rattle.std.specs.Fmt.{signed_decimal}
 use Rattle.std.proofs.lemmas.Slice.Eq.{bytes_eq-Decides}
@@ -21,7 +21,7 @@ dark [] = true
 dark (b ∷ bs) = not (separator b) && dark bs
 
 abbrev pub Dark : List ℕ → Type 0
-Dark w = All (λ b. separator b ≡ false) w
+Dark w = AllByRecursion (λ b. separator b ≡ false) w
 
 pub dark-all : (w : List ℕ) → dark w ≡ true → Dark w
 dark-all [] h = tt

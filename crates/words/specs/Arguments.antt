@@ -2,7 +2,7 @@
 use Rattle.std.specs.Prelude.{◌≡◌, ℕ, zero, suc, ◌^◌, ◌<◌, List, [], ◌∷◌, ◌++◌, map, length, take, ℤ, pos, Ok, Err, Result, slice_index_or}
 use Rattle.std.specs.Int.Signed.{mag}
 use Rattle.std.specs.Fmt.{signed_decimal}
-use Rattle.std.specs.List.{AllByRecursion as All}
+use Rattle.std.specs.List.{AllByRecursion}
 use Rattle.rows.specs.declared.numbers.Numbers.{Numbers}
 use Rattle.words.specs.declared.errors.LineError.{LineError}
 use Rattle.words.specs.declared.errors.LineError.TheVariants.{TooFewWords, TooManyWords, MissingHex}
@@ -52,7 +52,7 @@ items_of r = r.coefficients ++ r.bound ∷ []
 
 -- eight coefficients and a bound, each from -2^63 to 2^63 - 1
 abbrev pub Nine : Numbers → Type 0
-Nine r = (length r.coefficients ≡ 8) × All (λ z. mag z < 2 ^ 63) (items_of r)
+Nine r = (length r.coefficients ≡ 8) × AllByRecursion (λ z. mag z < 2 ^ 63) (items_of r)
 
 -- nine numbers that are written are read again, and what is read is nine numbers of 64 bits
 pub record NumbersRead : Type 0 where

@@ -1,7 +1,7 @@
 -- Bytes written as hexadecimal digits: which texts are, which bytes they write, and how bytes are written.
 use Rattle.std.specs.Prelude.{◌≡◌, ℕ, ◌+◌, ◌*◌, ◌/◌, ◌%◌, ◌<◌, Bool, true, cond, ◌&&◌, ◌⊎◌, List, [], ◌∷◌, length, Ok, Err, codes, Result, ◌==◌}
 use Rattle.std.specs.Char.{is_ascii_hexdigit, digit_value, digit_char}
-use Rattle.std.specs.List.{AllByRecursion as All}
+use Rattle.std.specs.List.{AllByRecursion}
 use Rattle.std.specs.Str.{bytes_eq}
 use Rattle.words.specs.declared.errors.LineError.{LineError}
 use Rattle.words.specs.declared.errors.LineError.TheVariants.{NoHexDigit, OddHexDigits}
@@ -44,5 +44,5 @@ hex_text (b ∷ bs) = hex_digits (b ∷ bs)
 
 -- bytes that are written are read again, and what is read is a dash or two digits for each byte
 pub record HexReads : Type 0 where
-  pub back : (bytes : List ℕ) → All (λ b. b < 256) bytes → hex_bytes (hex_text bytes) ≡ Ok bytes
+  pub back : (bytes : List ℕ) → AllByRecursion (λ b. b < 256) bytes → hex_bytes (hex_text bytes) ≡ Ok bytes
   pub only : (w bytes : List ℕ) → hex_bytes w ≡ Ok bytes → (w ≡ codes "-") ⊎ ((all_hex w ≡ true) × (length w ≡ 2 * length bytes))
