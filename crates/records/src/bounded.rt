@@ -10,6 +10,7 @@ pub struct BoundedList<T, const N: usize> {
     ghost sized: { length items ≡ N },
 }
 
+// By hand: `Clone` is not derived for a struct with a ghost field and a type parameter. A copy is the same list.
 impl<T: Copy, const N: usize> Clone for BoundedList<T, N> {
     ghost is_clone = { λ x y. y ≡ x };
 

@@ -10,5 +10,10 @@ pub mod witness;
 
 pub use admission::{read_witness, test_witness};
 pub use piece::Piece;
+// The records and what holds them are of the crate `records`; whoever reads finds them here too.
+pub use records::{
+    BoundedList, Heading, Inner, Numbered, Place, PlanEntry, Register, Shape, Transition, Written,
+    bounded, heading, limits, register, shape,
+};
 pub use table::{read_table, test_table};
 pub use witness::{WitnessPiece, WitnessReader};
