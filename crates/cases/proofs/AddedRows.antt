@@ -12,8 +12,8 @@ use Rattle.rows.specs.declared.numbers.Numbers.{Numbers}
 use Rattle.rows.specs.Faults.{check}
 use Rattle.rows.specs.Limits.{columns, items, magnitude_of, within}
 use Rattle.rows.specs.Shapes.{item_of}
-use Rattle.rows.proofs.Chains.{both, check-true}
-use Rattle.rows.proofs.Items.{item-column, item-bound}
+use Rattle.rows.proofs.Chains.{both, check_true}
+use Rattle.rows.proofs.Items.{item_column, item_bound}
 use Rattle.records.specs.declared.shape.Shape.{Shape}
 use Rattle.records.specs.Limits.{most_values, most_conditions, most_restrictions}
 use Rattle.records.specs.Lists.{first_with, among}
@@ -25,31 +25,31 @@ use Rattle.semantics.specs.Runs.{Member}
 use Rattle.semantics.proofs.Members.{same_some}
 use Rattle.cases.specs.Told.{bare, all_within, numbers_fit, slotted, added_row, add_told}
 use Rattle.cases.specs.Worked.{changed_first, strengthened_place, restricted_inner}
-use Rattle.cases.proofs.Steps.{numbers-within}
+use Rattle.cases.proofs.Steps.{numbers_within}
 
 -- the first record with a number, changed
 module _ {X : Type 0} (num : X → ℕ) (n : ℕ) (f : X → X) where
   -- what holds of each record and of the changed one holds of each afterwards
-  pub changed-all : (P : X → Type 0) (xs : List X) → AllByRecursion P xs → ((x : X) → first_with num n xs ≡ Some x → P x → P (f x)) → AllByRecursion P (changed_first num n f xs)
-  changed-all P [] a h = tt
-  changed-all P (x ∷ xs) a h = from (eqb (num x) n) h (λ k. changed-all P xs a.1 k)
+  pub changed_all : (P : X → Type 0) (xs : List X) → AllByRecursion P xs → ((x : X) → first_with num n xs ≡ Some x → P x → P (f x)) → AllByRecursion P (changed_first num n f xs)
+  changed_all P [] a h = tt
+  changed_all P (x ∷ xs) a h = from (eqb (num x) n) h (λ k. changed_all P xs a.1 k)
     where
       from : (b : Bool) → ((y : X) → cond b (Some x) (first_with num n xs) ≡ Some y → P y → P (f y)) → (((y : X) → first_with num n xs ≡ Some y → P y → P (f y)) → AllByRecursion P (changed_first num n f xs)) → AllByRecursion P (cond b (f x ∷ xs) (x ∷ changed_first num n f xs))
       from true k r = (k x refl a.0, a.1)
       from false k r = (a.0, r k)
 
   -- numbers that do not change
-  pub changed-numbers : ((x : X) → num (f x) ≡ num x) → (xs : List X) → map num (changed_first num n f xs) ≡ map num xs
-  changed-numbers same [] = refl
-  changed-numbers same (x ∷ xs) = from (eqb (num x) n) (changed-numbers same xs)
+  pub changed_numbers : ((x : X) → num (f x) ≡ num x) → (xs : List X) → map num (changed_first num n f xs) ≡ map num xs
+  changed_numbers same [] = refl
+  changed_numbers same (x ∷ xs) = from (eqb (num x) n) (changed_numbers same xs)
     where
       from : (b : Bool) → map num (changed_first num n f xs) ≡ map num xs → map num (cond b (f x ∷ xs) (x ∷ changed_first num n f xs)) ≡ num x ∷ map num xs
       from true r = ap (λ (k : ℕ). k ∷ map num xs) (same x)
       from false r = ap (λ (ks : List ℕ). num x ∷ ks) r
 
-  pub changed-length : (xs : List X) → length (changed_first num n f xs) ≡ length xs
-  changed-length [] = refl
-  changed-length (x ∷ xs) = from (eqb (num x) n) (changed-length xs)
+  pub changed_length : (xs : List X) → length (changed_first num n f xs) ≡ length xs
+  changed_length [] = refl
+  changed_length (x ∷ xs) = from (eqb (num x) n) (changed_length xs)
     where
       from : (b : Bool) → length (changed_first num n f xs) ≡ length xs → length (cond b (f x ∷ xs) (x ∷ changed_first num n f xs)) ≡ length (x ∷ xs)
       from true r = refl
@@ -57,9 +57,9 @@ module _ {X : Type 0} (num : X → ℕ) (n : ℕ) (f : X → X) where
 
   -- each record goes over into one, and each comes from one
   module _ (R : X → X → Type 0) (kept : (x : X) → R x x) (made : (x : X) → R x (f x)) where
-    pub member-changed : (xs : List X) (x : X) → Member x xs → (y : X) × Member y (changed_first num n f xs) × R x y
-    member-changed [] x m = absurd m
-    member-changed (z ∷ zs) x m = from (eqb (num z) n) m (λ k. member-changed zs x k)
+    pub member_changed : (xs : List X) (x : X) → Member x xs → (y : X) × Member y (changed_first num n f xs) × R x y
+    member_changed [] x m = absurd m
+    member_changed (z ∷ zs) x m = from (eqb (num z) n) m (λ k. member_changed zs x k)
       where
         from : (b : Bool) → Member x (z ∷ zs) → (Member x zs → (y : X) × Member y (changed_first num n f zs) × R x y) → (y : X) × Member y (cond b (f z ∷ zs) (z ∷ changed_first num n f zs)) × R x y
         from true (inl e) r = (f z, inl refl, subst (λ v. R v (f z)) e (made z))
@@ -67,9 +67,9 @@ module _ {X : Type 0} (num : X → ℕ) (n : ℕ) (f : X → X) where
         from false (inl e) r = (z, inl refl, subst (λ v. R v z) e (kept z))
         from false (inr k) r = let h = r k in (h.0, inr h.1, h.2)
 
-    pub changed-member : (xs : List X) (y : X) → Member y (changed_first num n f xs) → (x : X) × Member x xs × R x y
-    changed-member [] y m = absurd m
-    changed-member (z ∷ zs) y m = from (eqb (num z) n) m (λ k. changed-member zs y k)
+    pub changed_member : (xs : List X) (y : X) → Member y (changed_first num n f xs) → (x : X) × Member x xs × R x y
+    changed_member [] y m = absurd m
+    changed_member (z ∷ zs) y m = from (eqb (num z) n) m (λ k. changed_member zs y k)
       where
         from : (b : Bool) → Member y (cond b (f z ∷ zs) (z ∷ changed_first num n f zs)) → (Member y (changed_first num n f zs) → (x : X) × Member x zs × R x y) → (x : X) × Member x (z ∷ zs) × R x y
         from true (inl e) r = (z, inl refl, subst (R z) e (made z))
@@ -82,14 +82,14 @@ module _ (shape : Shape) (numbers : List ℤ) where
   abbrev item : ℕ → ℤ
   item k = slotted numbers (slot_of shape k)
 
-  column-is : (k : ℕ) → k < columns → get_or (added_row shape numbers).coefficients k (pos 0) ≡ item k
-  column-is k l = get_or-map-range_with_len item 0 columns k k (pos 0) l (omega arith)
+  column_is : (k : ℕ) → k < columns → get_or (added_row shape numbers).coefficients k (pos 0) ≡ item k
+  column_is k l = get_or-map-range_with_len item 0 columns k k (pos 0) l (omega arith)
 
-  item-is : (k : ℕ) → k < items → item_of (added_row shape numbers) k ≡ item k
-  item-is k l =
+  item_is : (k : ℕ) → k < items → item_of (added_row shape numbers) k ≡ item k
+  item_is k l =
       elim (cases_lt k columns) [
-        | inl h ↦ item-column (added_row shape numbers) k h ∙ column-is k h
-        | inr h ↦ let e : columns ≡ k = omega arith in item-bound (added_row shape numbers) k h ∙ ap item e
+        | inl h ↦ item_column (added_row shape numbers) k h ∙ column_is k h
+        | inr h ↦ let e : columns ≡ k = omega arith in item_bound (added_row shape numbers) k h ∙ ap item e
       ]
 
   -- zero in the columns that the shape does not use
@@ -100,38 +100,38 @@ module _ (shape : Shape) (numbers : List ℤ) where
       let c = le-ltb k shape.values l in
       rw (a, b, c)
 
-  no-choice : (k : ℕ) → most_values + shape.choices ≤ k → k < columns → item k ≡ pos 0
-  no-choice k l h =
+  no_choice : (k : ℕ) → most_values + shape.choices ≤ k → k < columns → item k ≡ pos 0
+  no_choice k l h =
       let a = lt-ltb k columns h in
       let b = le-ltb k most_values (omega arith) in
       let c = le-ltb (k - most_values) shape.choices (omega arith) in
       rw (a, b, c)
 
-  slotted-within : (most : ℕ) → within most (pos 0) ≡ true → all_within most numbers ≡ true → (o : Option ℕ) → within most (slotted numbers o) ≡ true
-  slotted-within most z w None = z
-  slotted-within most z w (Some slot) = numbers-within most numbers z w slot
+  slotted_within : (most : ℕ) → within most (pos 0) ≡ true → all_within most numbers ≡ true → (o : Option ℕ) → within most (slotted numbers o) ≡ true
+  slotted_within most z w None = z
+  slotted_within most z w (Some slot) = numbers_within most numbers z w slot
 
-  pub added-stored : all_within (magnitude_of WrittenNumber) numbers ≡ true → StoredRow shape (added_row shape numbers)
-  added-stored w =
+  pub added_stored : all_within (magnitude_of WrittenNumber) numbers ≡ true → StoredRow shape (added_row shape numbers)
+  added_stored w =
       record {
         sized = length-map-range_with_len item 0 columns;
-        other-values = λ k l h. column-is k (omega arith) ∙ no_value k l h;
-        other-choices = λ k l h. column-is k h ∙ no-choice k l h;
-        written = λ k l. ap (within (magnitude_of WrittenNumber)) (item-is k l) ∙ slotted-within (magnitude_of WrittenNumber) refl w (slot_of shape k);
+        other_values = λ k l h. column_is k (omega arith) ∙ no_value k l h;
+        other_choices = λ k l h. column_is k h ∙ no_choice k l h;
+        written = λ k l. ap (within (magnitude_of WrittenNumber)) (item_is k l) ∙ slotted_within (magnitude_of WrittenNumber) refl w (slot_of shape k);
       }
 
   -- one row more, where there is room
-  pub rows-added : (most : ℕ) (rows : List Numbers) → StoredRows shape most rows → add_told shape most rows numbers ≡ Ok tt → StoredRows shape most (rows ++ added_row shape numbers ∷ [])
-  rows-added most rows s e =
+  pub rows_added : (most : ℕ) (rows : List Numbers) → StoredRows shape most rows → add_told shape most rows numbers ≡ Ok tt → StoredRows shape most (rows ++ added_row shape numbers ∷ [])
+  rows_added most rows s e =
       let count = shape.values + shape.choices + 1 in
       let fit = numbers_fit (magnitude_of WrittenNumber) count numbers in
       let p = both (check fit (bare AddedNumbers)) (check (ltb (length rows) most) (bare AddedRowsFull)) e in
-      let w = (and_parts (eqb (length numbers) count) (all_within (magnitude_of WrittenNumber) numbers) (check-true fit (bare AddedNumbers) p.0)).1 in
-      let l = ltb-true (length rows) most (check-true (ltb (length rows) most) (bare AddedRowsFull) p.1) in
+      let w = (and_parts (eqb (length numbers) count) (all_within (magnitude_of WrittenNumber) numbers) (check_true fit (bare AddedNumbers) p.0)).1 in
+      let l = ltb-true (length rows) most (check_true (ltb (length rows) most) (bare AddedRowsFull) p.1) in
       let n = length-append rows (added_row shape numbers ∷ []) in
       record {
         count = omega arith;
-        each = All-push (StoredRow shape) rows (added_row shape numbers) s.each (added-stored w);
+        each = All-push (StoredRow shape) rows (added_row shape numbers) s.each (added_stored w);
       }
 
 -- the witness with a condition row or a restriction row more
@@ -152,52 +152,52 @@ module _ (table : TableData) (w : WitnessData) (number : ℕ) (numbers : List �
   restricted = record { places = w.places; inners = changed_first (λ i. i.number) number restricted_by w.inners }
 
   -- the numbers stay
-  places-numbered : place_numbers strengthened ≡ place_numbers w
-  places-numbered = changed-numbers (λ (p : PlaceData). p.number) number strengthened_by (λ p. refl) w.places
+  places_numbered : place_numbers strengthened ≡ place_numbers w
+  places_numbered = changed_numbers (λ (p : PlaceData). p.number) number strengthened_by (λ p. refl) w.places
 
-  inners-numbered : inner_numbers restricted ≡ inner_numbers w
-  inners-numbered = changed-numbers (λ (i : InnerData). i.number) number restricted_by (λ i. refl) w.inners
+  inners_numbered : inner_numbers restricted ≡ inner_numbers w
+  inners_numbered = changed_numbers (λ (i : InnerData). i.number) number restricted_by (λ i. refl) w.inners
 
   module _ (valid : ValidWitness table.transitions shape w) where
-    pub strengthened-valid : (p : PlaceData) → place_with w number ≡ Some p → add_told (over_values shape) most_conditions p.condition numbers ≡ Ok tt → ValidWitness table.transitions shape strengthened
-    strengthened-valid p found e =
-        let n = changed-length (λ (x : PlaceData). x.number) number strengthened_by w.places in
-        let l = valid.place-count in
+    pub strengthened_valid : (p : PlaceData) → place_with w number ≡ Some p → add_told (over_values shape) most_conditions p.condition numbers ≡ Ok tt → ValidWitness table.transitions shape strengthened
+    strengthened_valid p found e =
+        let n = changed_length (λ (x : PlaceData). x.number) number strengthened_by w.places in
+        let l = valid.place_count_lem in
         record {
-          place-count = omega arith;
-          places = changed-all (λ (x : PlaceData). x.number) number strengthened_by (ValidPlace shape) w.places valid.places (λ x f v. record {
+          place_count_lem = omega arith;
+          places = changed_all (λ (x : PlaceData). x.number) number strengthened_by (ValidPlace shape) w.places valid.places (λ x f v. record {
             number = v.number;
-            condition = rows-added (over_values shape) numbers most_conditions x.condition v.condition (subst (λ (y : PlaceData). add_told (over_values shape) most_conditions y.condition numbers ≡ Ok tt) (same_some p x (sym found ∙ f)) e);
-            tested-count = v.tested-count;
+            condition = rows_added (over_values shape) numbers most_conditions x.condition v.condition (subst (λ (y : PlaceData). add_told (over_values shape) most_conditions y.condition numbers ≡ Ok tt) (same_some p x (sym found ∙ f)) e);
+            tested_count = v.tested_count;
             tested = v.tested;
             last = v.last;
           });
-          places-rising = subst (Rising 0) (sym places-numbered) valid.places-rising;
-          inner-count = valid.inner-count;
+          places_rising = subst (Rising 0) (sym places_numbered) valid.places_rising;
+          inner_count_lem = valid.inner_count_lem;
           inners = valid.inners;
-          inners-rising = valid.inners-rising;
-          plans-fit = changed-all (λ (x : PlaceData). x.number) number strengthened_by (PlanFits table.transitions strengthened) w.places valid.plans-fit (λ x f v. v);
-          inners-fit = subst (λ (ns : List ℕ). AllByRecursion (λ (i : InnerData). (t : TransitionData) × Transition-is table.transitions i.number t × (among t.start ns ≡ true) × (among t.target ns ≡ true)) w.inners) (sym places-numbered) valid.inners-fit;
+          inners_rising = valid.inners_rising;
+          plans_fit = changed_all (λ (x : PlaceData). x.number) number strengthened_by (PlanFits table.transitions strengthened) w.places valid.plans_fit (λ x f v. v);
+          inners_fit = subst (λ (ns : List ℕ). AllByRecursion (λ (i : InnerData). (t : TransitionData) × Transition-is table.transitions i.number t × (among t.start ns ≡ true) × (among t.target ns ≡ true)) w.inners) (sym places_numbered) valid.inners_fit;
         }
 
-    pub restricted-valid : (i : InnerData) → inner_with w number ≡ Some i → add_told shape most_restrictions i.restrictions numbers ≡ Ok tt → ValidWitness table.transitions shape restricted
-    restricted-valid i found e =
-        let n = changed-length (λ (x : InnerData). x.number) number restricted_by w.inners in
-        let l = valid.inner-count in
+    pub restricted_valid : (i : InnerData) → inner_with w number ≡ Some i → add_told shape most_restrictions i.restrictions numbers ≡ Ok tt → ValidWitness table.transitions shape restricted
+    restricted_valid i found e =
+        let n = changed_length (λ (x : InnerData). x.number) number restricted_by w.inners in
+        let l = valid.inner_count_lem in
         record {
-          place-count = valid.place-count;
+          place_count_lem = valid.place_count_lem;
           places = valid.places;
-          places-rising = valid.places-rising;
-          inner-count = omega arith;
-          inners = changed-all (λ (x : InnerData). x.number) number restricted_by (ValidInner shape) w.inners valid.inners (λ x f v. record {
+          places_rising = valid.places_rising;
+          inner_count_lem = omega arith;
+          inners = changed_all (λ (x : InnerData). x.number) number restricted_by (ValidInner shape) w.inners valid.inners (λ x f v. record {
             number = v.number;
-            restrictions = rows-added shape numbers most_restrictions x.restrictions v.restrictions (subst (λ (y : InnerData). add_told shape most_restrictions y.restrictions numbers ≡ Ok tt) (same_some i x (sym found ∙ f)) e);
-            choice-each = v.choice-each;
+            restrictions = rows_added shape numbers most_restrictions x.restrictions v.restrictions (subst (λ (y : InnerData). add_told shape most_restrictions y.restrictions numbers ≡ Ok tt) (same_some i x (sym found ∙ f)) e);
+            choice_each = v.choice_each;
             choices = v.choices;
           });
-          inners-rising = subst (Rising 0) (sym inners-numbered) valid.inners-rising;
-          plans-fit = subst (λ (ns : List ℕ). AllByRecursion (PlansIn ns) w.places) (sym inners-numbered) valid.plans-fit;
-          inners-fit = changed-all (λ (x : InnerData). x.number) number restricted_by (InnerFits table.transitions restricted) w.inners valid.inners-fit (λ x f v. v);
+          inners_rising = subst (Rising 0) (sym inners_numbered) valid.inners_rising;
+          plans_fit = subst (λ (ns : List ℕ). AllByRecursion (PlansIn ns) w.places) (sym inners_numbered) valid.plans_fit;
+          inners_fit = changed_all (λ (x : InnerData). x.number) number restricted_by (InnerFits table.transitions restricted) w.inners valid.inners_fit (λ x f v. v);
         }
       where
         -- that plans fit, by the numbers of the inner transitions

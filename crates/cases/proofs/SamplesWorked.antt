@@ -24,10 +24,10 @@ unfoldable pub computing : Unit {0}
 unfolding sample_table_bytes sample_witness_bytes first_beyond dot piece_says item_at row_says heading_says transition_says transitions_at transitions_say table_at content_says pieces_at walk_says place_says inner_says kind_says pieces_of pieces_say entry_fits inner_fits plan_says witnesses.content_says open_told admit_told begin_told advance_told prove_told verdict_told unroll_tests walked plan_step question_of obligations_of combined layered opening opened sums_say after answer
 computing = tt
 
-pub calls-worked : WorkedCalls
+pub calls_worked_lem : WorkedCalls
 unfolding computing
-calls-worked = record { accepted = refl; unrolled = refl; unmet = refl; unrolled-none = refl }
+calls_worked_lem = record { accepted = refl; unrolled = refl; unmet = refl; unrolled_none = refl }
 
-pub dossiers-worked : WorkedDossiers
+pub dossiers_worked_lem : WorkedDossiers
 unfolding computing sample_dossier second_dossier dossier_says
-dossiers-worked = record { bytes-are = refl; accepted = refl; column-differs = refl; condition-unmet = refl; left_over = refl; second-accepted = refl }
+dossiers_worked_lem = record { bytes_are = refl; accepted = refl; column_differs = refl; condition_unmet_lem = refl; left_over = refl; second_accepted = refl }

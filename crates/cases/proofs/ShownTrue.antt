@@ -15,15 +15,15 @@ use Rattle.semantics.specs.Goals.{with_choices}
 use Rattle.semantics.specs.Laws.{Fitting}
 use Rattle.semantics.specs.Obligations.{tests, Entry, tested, final, Poses, Consecutive, Restricted, Guarded, Closed, Follows}
 use Rattle.semantics.specs.Runs.{Member}
-use Rattle.semantics.proofs.Gathering.{member-left, member_right, member-either}
-use Rattle.semantics.proofs.Listing.{obligations-agree}
-use Rattle.semantics.proofs.Members.{none-some}
-use Rattle.semantics.proofs.StateRows.{follows-more}
+use Rattle.semantics.proofs.Gathering.{member_left, member_right, member_either}
+use Rattle.semantics.proofs.Listing.{obligations_agree_lem}
+use Rattle.semantics.proofs.Members.{none_some}
+use Rattle.semantics.proofs.StateRows.{follows_more}
 use Rattle.cases.specs.Model.{same, with_shown}
 use Rattle.cases.specs.Told.{added_row}
 use Rattle.cases.specs.Worked.{strengthened_place, restricted_inner}
-use Rattle.cases.proofs.AddedRows.{member-changed, changed-member, strengthened, restricted}
-use Rattle.cases.proofs.Standing.{same-is}
+use Rattle.cases.proofs.AddedRows.{member_changed, changed_member, strengthened, restricted}
+use Rattle.cases.proofs.Standing.{same_is}
 
 -- an obligation that is posed, and holds
 pub record Proven (table : TableData) (witness : WitnessData) (o : Obligation) : Type 0 where
@@ -50,12 +50,12 @@ pub record InnerGrown (i j : InnerData) : Type 0 where
 pub record Grown (w v : WitnessData) : Type 0 where
   pub places : (p : PlaceData) → Member p w.places → (q : PlaceData) × Member q v.places × PlaceGrown p q
   pub inners : (i : InnerData) → Member i w.inners → (j : InnerData) × Member j v.inners × InnerGrown i j
-  pub inners-only : (j : InnerData) → Member j v.inners → (i : InnerData) × Member i w.inners × InnerGrown i j
+  pub inners_only : (j : InnerData) → Member j v.inners → (i : InnerData) × Member i w.inners × InnerGrown i j
 
 -- a row keeps its index where rows are added behind
 at_left : {X : Type 0} (xs ys : List X) (i : ℕ) (x : X) → at i xs ≡ Some x → at i (xs ++ ys) ≡ Some x
-at_left [] ys zero x e = none-some x e
-at_left [] ys (suc i) x e = none-some x e
+at_left [] ys zero x e = none_some x e
+at_left [] ys (suc i) x e = none_some x e
 at_left (z ∷ zs) ys zero x e = e
 at_left (z ∷ zs) ys (suc i) x e = at_left zs ys i x e
 
@@ -63,32 +63,32 @@ at_left (z ∷ zs) ys (suc i) x e = at_left zs ys i x e
 abbrev Among : List Numbers → List Numbers → Type 0
 Among xs ys = (x : Numbers) → Member x xs → Member x ys
 
-among-joined : (xs xs' ys ys' : List Numbers) → Among xs xs' → Among ys ys' → Among (xs ++ ys) (xs' ++ ys')
-among-joined xs xs' ys ys' f g x m =
-    elim (member-either xs ys x m) [
-      | inl h ↦ member-left xs' ys' x (f x h)
+among_joined : (xs xs' ys ys' : List Numbers) → Among xs xs' → Among ys ys' → Among (xs ++ ys) (xs' ++ ys')
+among_joined xs xs' ys ys' f g x m =
+    elim (member_either xs ys x m) [
+      | inl h ↦ member_left xs' ys' x (f x h)
       | inr h ↦ member_right xs' ys' x (g x h)
     ]
 
-among-grown : (xs ys more : List Numbers) → ys ≡ xs ++ more → Among xs ys
-among-grown xs ys more e x m = subst (Member x) (sym e) (member-left xs more x m)
+among_grown : (xs ys more : List Numbers) → ys ≡ xs ++ more → Among xs ys
+among_grown xs ys more e x m = subst (Member x) (sym e) (member_left xs more x m)
 
 -- facts that begin with the condition of a place are among those that begin with the grown one
-facts-grown : (p q : PlaceData) → PlaceGrown p q → (facts rest more : List Numbers) → facts ≡ p.condition ++ rest → Among rest more → Among facts (q.condition ++ more)
-facts-grown p q g facts rest more e f =
-    subst (λ (xs : List Numbers). Among xs (q.condition ++ more)) (sym e) (among-joined p.condition q.condition rest more (among-grown p.condition q.condition g.more g.condition) f)
+facts_grown : (p q : PlaceData) → PlaceGrown p q → (facts rest more : List Numbers) → facts ≡ p.condition ++ rest → Among rest more → Among facts (q.condition ++ more)
+facts_grown p q g facts rest more e f =
+    subst (λ (xs : List Numbers). Among xs (q.condition ++ more)) (sym e) (among_joined p.condition q.condition rest more (among_grown p.condition q.condition g.more g.condition) f)
 
 module _ (table : TableData) (w v : WitnessData) (grown : Grown w v) where
   -- the facts of an obligation, more of them, and the same goal
   abbrev Kept : Obligation → List Numbers → Numbers → Type 0
   Kept o facts goal = (more : List Numbers) × Poses table v o more goal × Among facts more
 
-  consecution-kept : (n r : ℕ) (facts : List Numbers) (goal : Numbers) → Consecutive table w n r facts goal → Kept (Consecution n r) facts goal
-  consecution-kept n r facts goal c =
-      let from = grown.places c.from c.from-listed.0 in
-      let into = grown.places c.into c.into-listed.0 in
+  consecution_kept : (n r : ℕ) (facts : List Numbers) (goal : Numbers) → Consecutive table w n r facts goal → Kept (Consecution n r) facts goal
+  consecution_kept n r facts goal c =
+      let from = grown.places c.from c.from_listed.0 in
+      let into = grown.places c.into c.into_listed.0 in
       let inner = grown.inners c.inner c.declared.0 in
-      let kept = among-joined c.taken.guard c.taken.guard c.inner.restrictions inner.0.restrictions (λ x m. m) (among-grown c.inner.restrictions inner.0.restrictions inner.2.more inner.2.restrictions) in (
+      let kept = among_joined c.taken.guard c.taken.guard c.inner.restrictions inner.0.restrictions (λ x m. m) (among_grown c.inner.restrictions inner.0.restrictions inner.2.more inner.2.restrictions) in (
         from.0.condition ++ (c.taken.guard ++ inner.0.restrictions),
         record {
           taken = c.taken;
@@ -98,18 +98,18 @@ module _ (table : TableData) (w v : WitnessData) (grown : Grown w v) where
           row = c.row;
           known = c.known;
           declared = (inner.1, inner.2.number ∙ c.declared.1);
-          from-listed = (from.1, from.2.number ∙ c.from-listed.1);
-          into-listed = (into.1, into.2.number ∙ c.into-listed.1);
+          from_listed = (from.1, from.2.number ∙ c.from_listed.1);
+          into_listed = (into.1, into.2.number ∙ c.into_listed.1);
           row_is = ap (at r) into.2.condition ∙ at_left c.into.condition into.2.more r c.row c.row_is;
-          facts-are = refl;
-          goal-is = c.goal-is;
+          facts_are = refl;
+          goal_is = c.goal_is;
         },
-        facts-grown c.from from.0 from.2 facts (c.taken.guard ++ c.inner.restrictions) (c.taken.guard ++ inner.0.restrictions) c.facts-are kept,
+        facts_grown c.from from.0 from.2 facts (c.taken.guard ++ c.inner.restrictions) (c.taken.guard ++ inner.0.restrictions) c.facts_are kept,
       )
 
-  restriction-kept : (n r : ℕ) (facts : List Numbers) (goal : Numbers) → Restricted table w n r facts goal → Kept (Restriction n r) facts goal
-  restriction-kept n r facts goal c =
-      let from = grown.places c.from c.from-listed.0 in
+  restriction_kept : (n r : ℕ) (facts : List Numbers) (goal : Numbers) → Restricted table w n r facts goal → Kept (Restriction n r) facts goal
+  restriction_kept n r facts goal c =
+      let from = grown.places c.from c.from_listed.0 in
       let inner = grown.inners c.inner c.declared.0 in (
         from.0.condition ++ c.taken.guard,
         record {
@@ -119,12 +119,12 @@ module _ (table : TableData) (w v : WitnessData) (grown : Grown w v) where
           row = c.row;
           known = c.known;
           declared = (inner.1, inner.2.number ∙ c.declared.1);
-          from-listed = (from.1, from.2.number ∙ c.from-listed.1);
+          from_listed = (from.1, from.2.number ∙ c.from_listed.1);
           row_is = ap (at r) inner.2.restrictions ∙ at_left c.inner.restrictions inner.2.more r c.row c.row_is;
-          facts-are = refl;
-          goal-is = c.goal-is ∙ ap (λ (cs : List Numbers). with_choices (record { number = 0; restrictions = []; choices = cs }) c.row) (sym inner.2.choices);
+          facts_are = refl;
+          goal_is = c.goal_is ∙ ap (λ (cs : List Numbers). with_choices (record { number = 0; restrictions = []; choices = cs }) c.row) (sym inner.2.choices);
         },
-        facts-grown c.from from.0 from.2 facts c.taken.guard c.taken.guard c.facts-are (λ x m. m),
+        facts_grown c.from from.0 from.2 facts c.taken.guard c.taken.guard c.facts_are (λ x m. m),
       )
 
   -- the plan of a place that has grown
@@ -134,58 +134,58 @@ module _ (table : TableData) (w v : WitnessData) (grown : Grown w v) where
   entry_kept p q g e n facts (final a b c) =
       final (a ∙ ap length (sym g.tested)) (b ∙ sym g.last) (c ∙ ap (λ (es : List EntryData). map opposite_of (tests es)) (sym g.tested))
 
-  guard-kept : (place e r : ℕ) (facts : List Numbers) (goal : Numbers) → Guarded table w place e r facts goal → Kept (Guard place e r) facts goal
-  guard-kept place e r facts goal c =
-      let from = grown.places c.from c.from-listed.0 in (
+  guard_kept : (place e r : ℕ) (facts : List Numbers) (goal : Numbers) → Guarded table w place e r facts goal → Kept (Guard place e r) facts goal
+  guard_kept place e r facts goal c =
+      let from = grown.places c.from c.from_listed.0 in (
         from.0.condition ++ c.reached,
         record {
           from = from.0;
           number = c.number;
           reached = c.reached;
           taken = c.taken;
-          from-listed = (from.1, from.2.number ∙ c.from-listed.1);
+          from_listed = (from.1, from.2.number ∙ c.from_listed.1);
           entry = entry_kept c.from from.0 from.2 e c.number c.reached c.entry;
           known = c.known;
           row_is = c.row_is;
-          facts-are = refl;
+          facts_are = refl;
         },
-        facts-grown c.from from.0 from.2 facts c.reached c.reached c.facts-are (λ x m. m),
+        facts_grown c.from from.0 from.2 facts c.reached c.reached c.facts_are (λ x m. m),
       )
 
-  exit-kept : (n : ℕ) (facts : List Numbers) (goal : Numbers) → Closed table w n facts goal → Kept (Exit n) facts goal
-  exit-kept n facts goal c =
-      let from = grown.places c.from c.from-listed.0 in (
+  exit_kept : (n : ℕ) (facts : List Numbers) (goal : Numbers) → Closed table w n facts goal → Kept (Exit n) facts goal
+  exit_kept n facts goal c =
+      let from = grown.places c.from c.from_listed.0 in (
         from.0.condition ++ c.taken.guard,
         record {
           taken = c.taken;
           from = from.0;
           known = c.known;
-          not-inner = λ j d. let i = grown.inners-only j d.0 in c.not-inner i.0 (i.1, sym i.2.number ∙ d.1);
-          from-listed = (from.1, from.2.number ∙ c.from-listed.1);
-          facts-are = refl;
-          goal-is = c.goal-is;
+          not_inner = λ j d. let i = grown.inners_only j d.0 in c.not_inner i.0 (i.1, sym i.2.number ∙ d.1);
+          from_listed = (from.1, from.2.number ∙ c.from_listed.1);
+          facts_are = refl;
+          goal_is = c.goal_is;
         },
-        facts-grown c.from from.0 from.2 facts c.taken.guard c.taken.guard c.facts-are (λ x m. m),
+        facts_grown c.from from.0 from.2 facts c.taken.guard c.taken.guard c.facts_are (λ x m. m),
       )
 
-  poses-kept : (o : Obligation) (facts : List Numbers) (goal : Numbers) → Poses table w o facts goal → Kept o facts goal
-  poses-kept (Consecution n r) facts goal c = consecution-kept n r facts goal c
-  poses-kept (Restriction n r) facts goal c = restriction-kept n r facts goal c
-  poses-kept (Guard place e r) facts goal c = guard-kept place e r facts goal c
-  poses-kept (Exit n) facts goal c = exit-kept n facts goal c
+  poses_kept : (o : Obligation) (facts : List Numbers) (goal : Numbers) → Poses table w o facts goal → Kept o facts goal
+  poses_kept (Consecution n r) facts goal c = consecution_kept n r facts goal c
+  poses_kept (Restriction n r) facts goal c = restriction_kept n r facts goal c
+  poses_kept (Guard place e r) facts goal c = guard_kept place e r facts goal c
+  poses_kept (Exit n) facts goal c = exit_kept n facts goal c
 
   -- what holds still holds
-  pub proven-grown : (o : Obligation) → Proven table w o → Proven table v o
-  proven-grown o p =
-      let k = poses-kept o p.facts p.goal p.posed in
-      record { facts = k.0; goal = p.goal; posed = k.1; follows = follows-more p.facts k.0 p.goal p.follows k.2 }
+  pub proven_grown : (o : Obligation) → Proven table w o → Proven table v o
+  proven_grown o p =
+      let k = poses_kept o p.facts p.goal p.posed in
+      record { facts = k.0; goal = p.goal; posed = k.1; follows = follows_more p.facts k.0 p.goal p.follows k.2 }
 
 -- rows added by strengthen or restrict
-place-itself : (p : PlaceData) → PlaceGrown p p
-place-itself p = record { number = refl; more = []; condition = sym (append-nil p.condition); tested = refl; last = refl }
+place_itself : (p : PlaceData) → PlaceGrown p p
+place_itself p = record { number = refl; more = []; condition = sym (append-nil p.condition); tested = refl; last = refl }
 
-inner-itself : (i : InnerData) → InnerGrown i i
-inner-itself i = record { number = refl; more = []; restrictions = sym (append-nil i.restrictions); choices = refl }
+inner_itself : (i : InnerData) → InnerGrown i i
+inner_itself i = record { number = refl; more = []; restrictions = sym (append-nil i.restrictions); choices = refl }
 
 module _ (table : TableData) (w : WitnessData) (number : ℕ) (numbers : List ℤ) where
   abbrev condition_row : Numbers
@@ -194,44 +194,44 @@ module _ (table : TableData) (w : WitnessData) (number : ℕ) (numbers : List �
   abbrev restriction_row : Numbers
   restriction_row = added_row (shape_of table.heading) numbers
 
-  place-more : (p : PlaceData) → PlaceGrown p (strengthened_place condition_row p)
-  place-more p = record { number = refl; more = condition_row ∷ []; condition = refl; tested = refl; last = refl }
+  place_more : (p : PlaceData) → PlaceGrown p (strengthened_place condition_row p)
+  place_more p = record { number = refl; more = condition_row ∷ []; condition = refl; tested = refl; last = refl }
 
-  inner-more : (i : InnerData) → InnerGrown i (restricted_inner restriction_row i)
-  inner-more i = record { number = refl; more = restriction_row ∷ []; restrictions = refl; choices = refl }
+  inner_more : (i : InnerData) → InnerGrown i (restricted_inner restriction_row i)
+  inner_more i = record { number = refl; more = restriction_row ∷ []; restrictions = refl; choices = refl }
 
-  pub strengthened-grown : Grown w (strengthened table w number numbers)
-  strengthened-grown =
+  pub strengthened_grown : Grown w (strengthened table w number numbers)
+  strengthened_grown =
       record {
-        places = member-changed (λ (p : PlaceData). p.number) number (strengthened_place condition_row) PlaceGrown place-itself place-more w.places;
-        inners = λ i m. (i, m, inner-itself i);
-        inners-only = λ i m. (i, m, inner-itself i);
+        places = member_changed (λ (p : PlaceData). p.number) number (strengthened_place condition_row) PlaceGrown place_itself place_more w.places;
+        inners = λ i m. (i, m, inner_itself i);
+        inners_only = λ i m. (i, m, inner_itself i);
       }
 
-  pub restricted-grown : Grown w (restricted table w number numbers)
-  restricted-grown =
+  pub restricted_grown : Grown w (restricted table w number numbers)
+  restricted_grown =
       record {
-        places = λ p m. (p, m, place-itself p);
-        inners = member-changed (λ (i : InnerData). i.number) number (restricted_inner restriction_row) InnerGrown inner-itself inner-more w.inners;
-        inners-only = changed-member (λ (i : InnerData). i.number) number (restricted_inner restriction_row) InnerGrown inner-itself inner-more w.inners;
+        places = λ p m. (p, m, place_itself p);
+        inners = member_changed (λ (i : InnerData). i.number) number (restricted_inner restriction_row) InnerGrown inner_itself inner_more w.inners;
+        inners_only = changed_member (λ (i : InnerData). i.number) number (restricted_inner restriction_row) InnerGrown inner_itself inner_more w.inners;
       }
 
 -- an obligation that a method says yes to holds
-pub yes-proven :
+pub yes_proven :
     (table : TableData) (witness : WitnessData) → Fitting table witness → (meaning : Meaning) → Lawful meaning → (o : Obligation) (certificate : List ℕ) (rows : ℕ) (q : Posed)
     → question_of table witness o ≡ Some q → meaning (question q.facts q.goal certificate rows) ≡ Ok tt → Proven table witness o
-yes-proven table witness fit meaning lawful o certificate rows q found said =
+yes_proven table witness fit meaning lawful o certificate rows q found said =
     record {
       facts = q.facts;
       goal = q.goal;
-      posed = (obligations-agree table witness fit).asks o q.facts q.goal found;
+      posed = (obligations_agree_lem table witness fit).asks o q.facts q.goal found;
       follows = lawful.sound (question q.facts q.goal certificate rows) said;
     }
 
 -- one obligation more that holds
-pub marked-proven : (P : Obligation → Type 0) (o : Obligation) (shown : Obligation → Bool) → P o → ((x : Obligation) → shown x ≡ true → P x) → (x : Obligation) → with_shown o shown x ≡ true → P x
-marked-proven P o shown p h x e = from (same o x) refl e
+pub marked_proven : (P : Obligation → Type 0) (o : Obligation) (shown : Obligation → Bool) → P o → ((x : Obligation) → shown x ≡ true → P x) → (x : Obligation) → with_shown o shown x ≡ true → P x
+marked_proven P o shown p h x e = from (same o x) refl e
   where
     from : (b : Bool) → same o x ≡ b → cond b true (shown x) ≡ true → P x
-    from true s k = subst P (same-is o x s) p
+    from true s k = subst P (same_is o x s) p
     from false s k = h x k

@@ -179,11 +179,11 @@ pub record AcceptedCase (bytes : List ℕ) (r : Reached) : Type 0 where
   pub table : TableData
   pub witness : WitnessData
   pub present : Present
-  pub is-table : table ≡ table_at (piece_at bytes pieces_from)
-  pub is-witness : witness ≡ witness_at (shape_of table.heading) (piece_at bytes (piece_end bytes pieces_from))
-  pub has-table : (worked dossier_making calls).table ≡ Some table
-  pub has-witness : (worked dossier_making calls).witness ≡ Some witness
-  pub has-present : (worked dossier_making calls).present ≡ Some present
+  pub is_table : table ≡ table_at (piece_at bytes pieces_from)
+  pub is_witness : witness ≡ witness_at (shape_of table.heading) (piece_at bytes (piece_end bytes pieces_from))
+  pub has_table : (worked dossier_making calls).table ≡ Some table
+  pub has_witness : (worked dossier_making calls).witness ≡ Some witness
+  pub has_present : (worked dossier_making calls).present ≡ Some present
   pub place : present.place ≡ r.place
   pub steps : (worked dossier_making calls).steps ≡ r.steps
   pub accepted : verdict_told (worked dossier_making calls) ≡ Ok tt

@@ -20,32 +20,32 @@ use Rattle.cases.specs.Worked.{after, worked}
 pub record Witnessed (m : Model) : Type 0 where
   pub table : TableData
   pub witness : WitnessData
-  pub has-table : m.table ≡ Some table
-  pub has-witness : m.witness ≡ Some witness
+  pub has_table : m.table ≡ Some table
+  pub has_witness : m.witness ≡ Some witness
 
 -- and a present place and state
 pub record Placed (m : Model) : Type 0 where
   pub table : TableData
   pub witness : WitnessData
   pub present : Present
-  pub has-table : m.table ≡ Some table
-  pub has-witness : m.witness ≡ Some witness
-  pub has-present : m.present ≡ Some present
+  pub has_table : m.table ≡ Some table
+  pub has_witness : m.witness ≡ Some witness
+  pub has_present : m.present ≡ Some present
 
 -- a run from an initial state reaches the present place and state; for every n a run on from there makes n steps, each by
 -- an inner transition, and the run for n + 1 is the run for n and one step more
 pub record EndlessFrom (table : TableData) (witness : WitnessData) (p : Present) : Type 0 where
   pub initial : List ℤ
-  pub is-initial : Initial table initial
+  pub is_initial : Initial table initial
   pub trace : Run
-  pub trace-runs : RunOn table table.heading.start initial trace
-  pub reaches-place : place_after table.heading.start trace ≡ p.place
-  pub reaches-state : state_after initial trace ≡ p.state
+  pub trace_runs : RunOn table table.heading.start initial trace
+  pub reaches_place : place_after table.heading.start trace ≡ p.place
+  pub reaches_state : state_after initial trace ≡ p.state
   pub on : ℕ → Run
-  pub on-runs : (n : ℕ) → RunOn table p.place p.state (on n)
-  pub on-counts : (n : ℕ) → step_count (on n) ≡ n
-  pub on-inner : (n : ℕ) → EachStep (IsInner witness) (on n)
-  pub on-further : (n : ℕ) → (s : Step) × (on (suc n) ≡ further (on n) s)
+  pub on_runs : (n : ℕ) → RunOn table p.place p.state (on n)
+  pub on_counts : (n : ℕ) → step_count (on n) ≡ n
+  pub on_inner : (n : ℕ) → EachStep (IsInner witness) (on n)
+  pub on_further : (n : ℕ) → (s : Step) × (on (suc n) ≡ further (on n) s)
 
 -- one more step by an inner transition that keeps the restrictions
 pub record Prolonged (table : TableData) (witness : WitnessData) (p : Present) (run : Run) : Type 0 where
@@ -113,8 +113,8 @@ pub record Ready (making : Making) (calls : List Call) : Type 0 where
 pub record Promise (making : Making) (calls : List Call) (said : Said) : Type 0 where
   pub endless : said ≡ Ok tt → Endless (worked making calls)
   pub closed : said ≡ Ok tt → Closed (worked making calls)
-  pub only-ready : said ≡ Ok tt → Ready making calls
-  pub ready-accepted : Ready making calls → said ≡ Ok tt
+  pub only_ready : said ≡ Ok tt → Ready making calls
+  pub ready_accepted : Ready making calls → said ≡ Ok tt
 
 -- the guarantee
 abbrev pub Guarantee : Type 0

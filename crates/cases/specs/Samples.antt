@@ -75,13 +75,13 @@ pub record WorkedCalls : Type 0 where
   pub accepted : verdict_told (sample_case (pair (pos 3) (pos 2))) ≡ Ok tt
   pub unrolled : answer (Unroll 2 6) (sample_case (pair (pos 3) (pos 2))) ≡ ran (Ok (record { count = 2; states = pair (pos 3) (pos 2) ∷ pair (pos 5) (pos 2) ∷ pair (pos 7) (pos 2) ∷ [] }))
   pub unmet : verdict_told (sample_case (pair (pos 0) (pos 2))) ≡ Err (fault_of ConditionRowUnmet 1 0 0)
-  pub unrolled-none : answer (Unroll 5 12) (sample_case (pair (pos 999999999) (pos 2))) ≡ ran (Ok (record { count = 0; states = pair (pos 999999999) (pos 2) ∷ [] }))
+  pub unrolled_none : answer (Unroll 5 12) (sample_case (pair (pos 999999999) (pos 2))) ≡ ran (Ok (record { count = 0; states = pair (pos 999999999) (pos 2) ∷ [] }))
 
 pub record WorkedDossiers : Type 0 where
-  pub bytes-are : dossier_of (pair (pos 3) (pos 2)) first_weights ≡ sample_dossier
+  pub bytes_are : dossier_of (pair (pos 3) (pos 2)) first_weights ≡ sample_dossier
   pub accepted : dossier_says sample_dossier ≡ Ok (record { place = 1; steps = 0 })
   -- with other multipliers of the first certificate, with another first state, with one byte more
-  pub column-differs : dossier_says (dossier_of (pair (pos 3) (pos 2)) (1 ∷ 0 ∷ 0 ∷ [])) ≡ Err (fault_of ColumnDiffers 157 2 1)
-  pub condition-unmet : dossier_says (dossier_of (pair (pos 0) (pos 2)) first_weights) ≡ Err (fault_of ConditionRowUnmet 1 0 0)
+  pub column_differs : dossier_says (dossier_of (pair (pos 3) (pos 2)) (1 ∷ 0 ∷ 0 ∷ [])) ≡ Err (fault_of ColumnDiffers 157 2 1)
+  pub condition_unmet_lem : dossier_says (dossier_of (pair (pos 0) (pos 2)) first_weights) ≡ Err (fault_of ConditionRowUnmet 1 0 0)
   pub left_over : dossier_says (sample_dossier ++ 0 ∷ []) ≡ Err (fault_at DossierLeftOver 199)
-  pub second-accepted : dossier_says second_dossier ≡ Ok (record { place = 1; steps = 1 })
+  pub second_accepted : dossier_says second_dossier ≡ Ok (record { place = 1; steps = 1 })

@@ -101,24 +101,24 @@ shown_and_cleared = shown_once ++ Admit sample_witness_bytes ∷ []
 -- what does not hold, each beside what does
 pub record SharpPromises : Type 0 where
   -- going round is endless from a first value of 0
-  pub goes-round : EndlessFrom (table_with nought (round ∷ [])) round_inner (at (pos 0))
+  pub goes_round : EndlessFrom (table_with nought (round ∷ [])) round_inner (at (pos 0))
   -- not where no state is initial
-  pub no-beginning : EndlessFrom (table_with (impossible ∷ []) (round ∷ [])) round_inner (at (pos 0)) → ⊥
+  pub no_beginning : EndlessFrom (table_with (impossible ∷ []) (round ∷ [])) round_inner (at (pos 0)) → ⊥
   -- nor from a state that no run from an initial one reaches
   pub unreached : EndlessFrom (table_with nought (round ∷ [])) round_inner (at (pos 1)) → ⊥
   -- nor at a place that none reaches
   pub other_place : EndlessFrom (table_with nought (round ∷ elsewhere ∷ [])) both_inner (place_with 2 (pos 0)) → ⊥
   -- nor where the transition is not inner
-  pub none-inner : EndlessFrom (table_with nought (round ∷ [])) (inners_are []) (at (pos 0)) → ⊥
+  pub none_inner : EndlessFrom (table_with nought (round ∷ [])) (inners_are []) (at (pos 0)) → ⊥
   -- the countdown has runs of every number of inner steps, but no endless one
-  pub any-number : (n : ℕ) → InnerRun countdown both_inner (at (pos 0)) n
-  pub none-endless : EndlessFrom countdown both_inner (at (pos 0)) → ⊥
+  pub any_number : (n : ℕ) → InnerRun countdown both_inner (at (pos 0)) n
+  pub none_endless : EndlessFrom countdown both_inner (at (pos 0)) → ⊥
   -- a transition that is not inner can be taken, though one that is can still be taken after it: not closed
-  pub other-taken : ClosedFrom (table_with nought (round ∷ another ∷ [])) round_inner (at (pos 0)) → ⊥
+  pub other_taken : ClosedFrom (table_with nought (round ∷ another ∷ [])) round_inner (at (pos 0)) → ⊥
   -- there is no transition: not closed
   pub halts : ClosedFrom (table_with nought []) round_inner (at (pos 0)) → ⊥
   -- no inner step keeps the restriction: not closed
-  pub over-restricted : ClosedFrom (table_with nought (round ∷ [])) (inners_are (inner_by (impossible ∷ []) 1 ∷ [])) (at (pos 0)) → ⊥
+  pub over_restricted : ClosedFrom (table_with nought (round ∷ [])) (inners_are (inner_by (impossible ∷ []) 1 ∷ [])) (at (pos 0)) → ⊥
   -- an obligation that was shown stands shown, but not after an admit that succeeded
   pub stands : StandsShown dossier_making shown_once (Consecution 1 0)
   pub cleared : StandsShown dossier_making shown_and_cleared (Consecution 1 0) → ⊥

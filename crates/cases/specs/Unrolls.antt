@@ -32,8 +32,8 @@ pub record AsPlanned (table : TableData) (witness : WitnessData) (n : ℕ) (p : 
   pub at_most : u.count ≤ n
   pub stays : StaysFor table witness p u.count
   pub greatest : (j : ℕ) → j ≤ n → StaysFor table witness p j → j ≤ u.count
-  pub state-count : length u.states ≡ suc u.count
-  pub states-are : (k : ℕ) → k ≤ u.count → slice_index_or u.states k [] ≡ take table.heading.values (state_after p.state (plan_run table witness p.place p.state k))
+  pub state_count : length u.states ≡ suc u.count
+  pub states_are : (k : ℕ) → k ≤ u.count → slice_index_or u.states k [] ≡ take table.heading.values (state_after p.state (plan_run table witness p.place p.state k))
 
 abbrev pub UnrollsAsPlanned : Type 0
 UnrollsAsPlanned = (table : TableData) (witness : WitnessData) (n : ℕ) (p : Present) → AsPlanned table witness n p (unrolled_from table witness n p)

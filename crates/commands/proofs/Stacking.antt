@@ -13,15 +13,15 @@ use Rattle.commands.specs.declared.stacks.Stack.{Stack}
 use Rattle.commands.specs.declared.stacks.Stack.TheVariants.{Bare, Single, Double}
 use Rattle.commands.specs.Stacks.{slash, base_of, layer_of, over, of_base, stacked, stack_of, base_name, layer_name, names, slashed, stack_text, StacksRead}
 use Rattle.commands.specs.Words.{pieces, onto}
-use Rattle.commands.proofs.Cuts.{pieces_whole, pieces-at}
+use Rattle.commands.proofs.Cuts.{pieces_whole, pieces_at_lem}
 
 -- a choice between two names
 module _ {X : Type 0} (w a b : List ℕ) (x y : X) where
   abbrev choice : Option X
   choice = cond (bytes_eq w a) (Some x) (cond (bytes_eq w b) (Some y) None)
 
-  choice-cases : (P : Option X → Type 0) → (w ≡ a → P (Some x)) → (w ≡ b → P (Some y)) → (choice ≡ None → P None) → P choice
-  choice-cases P p q r =
+  choice_cases : (P : Option X → Type 0) → (w ≡ a → P (Some x)) → (w ≡ b → P (Some y)) → (choice ≡ None → P None) → P choice
+  choice_cases P p q r =
       ⊎_elim (λ t. subst P (sym (cond-true (bytes_eq w a) _ _ t)) (p ((bytes_eq-Decides w a).0 t)))
       (λ f. subst P (sym (cond-false (bytes_eq w a) _ _ f))
       (⊎_elim (λ t. subst P (sym (cond-true (bytes_eq w b) _ _ t)) (q ((bytes_eq-Decides w b).0 t)))
@@ -41,40 +41,40 @@ pub no_slash : (xs : List ℕ) → ((i : ℕ) → i < length xs → get_or xs i 
 no_slash xs h = All-from_get_or (λ b. slash b ≡ false) xs 0 (λ i l. ne_eqb (get_or xs i 0) 47 (h i l))
 
 -- a word with a slash: a layer over a stack
-pub stacked-over : (n : ℕ) (w top below : List ℕ) → w ≡ top ++ 47 ∷ below → AllByRecursion (λ b. slash b ≡ false) top → stacked (suc n) (pieces slash w) ≡ over (layer_of top) (stacked n (pieces slash below))
-stacked-over n w top below e clean =
+pub stacked_over : (n : ℕ) (w top below : List ℕ) → w ≡ top ++ 47 ∷ below → AllByRecursion (λ b. slash b ≡ false) top → stacked (suc n) (pieces slash w) ≡ over (layer_of top) (stacked n (pieces slash below))
+stacked_over n w top below e clean =
     let p = first_piece slash below in
     ap (λ l. stacked (suc n) (pieces slash l)) e
-    ∙ ap (stacked (suc n)) (pieces-at slash top below 47 clean refl ∙ ap (λ ps. top ∷ ps) p.1.1)
+    ∙ ap (stacked (suc n)) (pieces_at_lem slash top below 47 clean refl ∙ ap (λ ps. top ∷ ps) p.1.1)
     ∙ ap (λ ps. over (layer_of top) (stacked n ps)) (sym p.1.1)
 
 -- a word with none: a base
-pub stacked-base : (n : ℕ) (w : List ℕ) → AllByRecursion (λ b. slash b ≡ false) w → stacked n (pieces slash w) ≡ of_base (base_of w)
-stacked-base zero w clean = ap (stacked zero) (pieces_whole slash w clean)
-stacked-base (suc n) w clean = ap (stacked (suc n)) (pieces_whole slash w clean)
+pub stacked_base : (n : ℕ) (w : List ℕ) → AllByRecursion (λ b. slash b ≡ false) w → stacked n (pieces slash w) ≡ of_base (base_of w)
+stacked_base zero w clean = ap (stacked zero) (pieces_whole slash w clean)
+stacked_base (suc n) w clean = ap (stacked (suc n)) (pieces_whole slash w clean)
 
 -- the pieces of a word, put together again
-rejoined-more : (b : ℕ) (bs q : List ℕ) (qs : List (List ℕ)) → pieces slash bs ≡ q ∷ qs → slashed (q ∷ qs) ≡ bs → slashed (pieces slash (b ∷ bs)) ≡ b ∷ bs
-rejoined-more b bs q qs e rest = ⊎_elim at-slash inside (cases_Bool (slash b))
+rejoined_more : (b : ℕ) (bs q : List ℕ) (qs : List (List ℕ)) → pieces slash bs ≡ q ∷ qs → slashed (q ∷ qs) ≡ bs → slashed (pieces slash (b ∷ bs)) ≡ b ∷ bs
+rejoined_more b bs q qs e rest = ⊎_elim at_slash inside (cases_Bool (slash b))
   where
     front : (rs : List (List ℕ)) → slashed (onto b (q ∷ rs)) ≡ b ∷ slashed (q ∷ rs)
     front [] = refl
     front (r ∷ rs) = refl
 
-    at-slash : slash b ≡ true → slashed (pieces slash (b ∷ bs)) ≡ b ∷ bs
-    at-slash t = ap slashed (cond-true (slash b) _ _ t ∙ ap (λ ps. [] ∷ ps) e) ∙ (λ i. sym (eqb-true b 47 t) i ∷ rest i)
+    at_slash : slash b ≡ true → slashed (pieces slash (b ∷ bs)) ≡ b ∷ bs
+    at_slash t = ap slashed (cond-true (slash b) _ _ t ∙ ap (λ ps. [] ∷ ps) e) ∙ (λ i. sym (eqb-true b 47 t) i ∷ rest i)
 
     inside : slash b ≡ false → slashed (pieces slash (b ∷ bs)) ≡ b ∷ bs
     inside f = ap slashed (cond-false (slash b) _ _ f ∙ ap (onto b) e) ∙ front qs ∙ ap (λ l. b ∷ l) rest
 
 rejoined : (w : List ℕ) → slashed (pieces slash w) ≡ w
 rejoined [] = refl
-rejoined (b ∷ bs) = let p = first_piece slash bs in rejoined-more b bs p.0 p.1.0 p.1.1 (ap slashed (sym p.1.1) ∙ rejoined bs)
+rejoined (b ∷ bs) = let p = first_piece slash bs in rejoined_more b bs p.0 p.1.0 p.1.1 (ap slashed (sym p.1.1) ∙ rejoined bs)
 
 -- the last name of a word is a base, or the word writes no stack
-pub base-alone : (w : List ℕ) → stacked 0 (pieces slash w) ≡ of_base (base_of w)
-base-alone w =
-    choice-cases w (codes "multipliers") (codes "look-up") Multipliers LookUp (λ o. stacked 0 (pieces slash w) ≡ of_base o)
+pub base_alone : (w : List ℕ) → stacked 0 (pieces slash w) ≡ of_base (base_of w)
+base_alone w =
+    choice_cases w (codes "multipliers") (codes "look-up") Multipliers LookUp (λ o. stacked 0 (pieces slash w) ≡ of_base o)
     (λ e. ap (λ l. stacked 0 (pieces slash l)) e) (λ e. ap (λ l. stacked 0 (pieces slash l)) e) (λ none. alone none (pieces slash w) (rejoined w))
   where
     alone : base_of w ≡ None → (ps : List (List ℕ)) → slashed ps ≡ w → stacked 0 ps ≡ None
@@ -83,36 +83,36 @@ base-alone w =
     alone none (p ∷ q ∷ ps) e = refl
 
 -- names that write a stack are the stack's
-none-some : {X : Type 0} {x : X} → None ≡ Some x → ⊥
-none-some h = let z : ◌≡◌ {A = ℕ} 0 1 = cc in omega arith
+none_some : {X : Type 0} {x : X} → None ≡ Some x → ⊥
+none_some h = let z : ◌≡◌ {A = ℕ} 0 1 = cc in omega arith
 
-base-name : (w : List ℕ) (b : Base) → base_of w ≡ Some b → w ≡ base_name b
-base-name w b =
-    choice-cases w (codes "multipliers") (codes "look-up") Multipliers LookUp (λ o. o ≡ Some b → w ≡ base_name b)
-    (λ e h. let k : Multipliers ≡ b = cc in e ∙ ap base_name k) (λ e h. let k : LookUp ≡ b = cc in e ∙ ap base_name k) (λ _ h. absurd (none-some h))
+base_name_lem : (w : List ℕ) (b : Base) → base_of w ≡ Some b → w ≡ base_name b
+base_name_lem w b =
+    choice_cases w (codes "multipliers") (codes "look-up") Multipliers LookUp (λ o. o ≡ Some b → w ≡ base_name b)
+    (λ e h. let k : Multipliers ≡ b = cc in e ∙ ap base_name k) (λ e h. let k : LookUp ≡ b = cc in e ∙ ap base_name k) (λ _ h. absurd (none_some h))
 
-layer-name : (w : List ℕ) (l : Layer) → layer_of w ≡ Some l → w ≡ layer_name l
-layer-name w l =
-    choice-cases w (codes "cut") (codes "split") Cut Split (λ o. o ≡ Some l → w ≡ layer_name l)
-    (λ e h. let k : Cut ≡ l = cc in e ∙ ap layer_name k) (λ e h. let k : Split ≡ l = cc in e ∙ ap layer_name k) (λ _ h. absurd (none-some h))
+layer_name_lem : (w : List ℕ) (l : Layer) → layer_of w ≡ Some l → w ≡ layer_name l
+layer_name_lem w l =
+    choice_cases w (codes "cut") (codes "split") Cut Split (λ o. o ≡ Some l → w ≡ layer_name l)
+    (λ e h. let k : Cut ≡ l = cc in e ∙ ap layer_name k) (λ e h. let k : Split ≡ l = cc in e ∙ ap layer_name k) (λ _ h. absurd (none_some h))
 
-names-base : (w : List ℕ) (o : Option Base) (s : Stack) → ((b : Base) → o ≡ Some b → w ≡ base_name b) → of_base o ≡ Some s → w ∷ [] ≡ names s
-names-base w None s p h = absurd (none-some h)
-names-base w (Some b) s p h = let k : Bare b ≡ s = cc in ap (λ l. l ∷ []) (p b refl) ∙ ap names k
+names_base : (w : List ℕ) (o : Option Base) (s : Stack) → ((b : Base) → o ≡ Some b → w ≡ base_name b) → of_base o ≡ Some s → w ∷ [] ≡ names s
+names_base w None s p h = absurd (none_some h)
+names_base w (Some b) s p h = let k : Bare b ≡ s = cc in ap (λ l. l ∷ []) (p b refl) ∙ ap names k
 
-names-over : (w : List ℕ) (vs : List (List ℕ)) (o : Option Layer) (t : Option Stack) (s : Stack) → ((l : Layer) → o ≡ Some l → w ≡ layer_name l) → ((u : Stack) → t ≡ Some u → vs ≡ names u) → over o t ≡ Some s → w ∷ vs ≡ names s
-names-over w vs None t s p q h = absurd (none-some h)
-names-over w vs (Some l) None s p q h = absurd (none-some h)
-names-over w vs (Some l) (Some (Bare b)) s p q h = let k : Single l b ≡ s = cc in (λ i. p l refl i ∷ q (Bare b) refl i) ∙ ap names k
-names-over w vs (Some l) (Some (Single m b)) s p q h = let k : Double l m b ≡ s = cc in (λ i. p l refl i ∷ q (Single m b) refl i) ∙ ap names k
-names-over w vs (Some l) (Some (Double m n b)) s p q h = absurd (none-some h)
+names_over : (w : List ℕ) (vs : List (List ℕ)) (o : Option Layer) (t : Option Stack) (s : Stack) → ((l : Layer) → o ≡ Some l → w ≡ layer_name l) → ((u : Stack) → t ≡ Some u → vs ≡ names u) → over o t ≡ Some s → w ∷ vs ≡ names s
+names_over w vs None t s p q h = absurd (none_some h)
+names_over w vs (Some l) None s p q h = absurd (none_some h)
+names_over w vs (Some l) (Some (Bare b)) s p q h = let k : Single l b ≡ s = cc in (λ i. p l refl i ∷ q (Bare b) refl i) ∙ ap names k
+names_over w vs (Some l) (Some (Single m b)) s p q h = let k : Double l m b ≡ s = cc in (λ i. p l refl i ∷ q (Single m b) refl i) ∙ ap names k
+names_over w vs (Some l) (Some (Double m n b)) s p q h = absurd (none_some h)
 
 names_of : (n : ℕ) (ps : List (List ℕ)) (s : Stack) → stacked n ps ≡ Some s → ps ≡ names s
-names_of n [] s h = absurd (none-some h)
-names_of zero (w ∷ []) s h = names-base w (base_of w) s (base-name w) h
-names_of (suc n) (w ∷ []) s h = names-base w (base_of w) s (base-name w) h
-names_of zero (w ∷ v ∷ vs) s h = absurd (none-some h)
-names_of (suc n) (w ∷ v ∷ vs) s h = names-over w (v ∷ vs) (layer_of w) (stacked n (v ∷ vs)) s (layer-name w) (λ u e. names_of n (v ∷ vs) u e) h
+names_of n [] s h = absurd (none_some h)
+names_of zero (w ∷ []) s h = names_base w (base_of w) s (base_name_lem w) h
+names_of (suc n) (w ∷ []) s h = names_base w (base_of w) s (base_name_lem w) h
+names_of zero (w ∷ v ∷ vs) s h = absurd (none_some h)
+names_of (suc n) (w ∷ v ∷ vs) s h = names_over w (v ∷ vs) (layer_of w) (stacked n (v ∷ vs)) s (layer_name_lem w) (λ u e. names_of n (v ∷ vs) u e) h
 
 back : (s : Stack) → stack_of (stack_text s) ≡ Some s
 unfolding stack_of
@@ -135,5 +135,5 @@ only : (w : List ℕ) (s : Stack) → stack_of w ≡ Some s → w ≡ stack_text
 unfolding stack_of
 only w s h = sym (rejoined w) ∙ ap slashed (names_of 2 (pieces slash w) s h)
 
-pub stacks-read : StacksRead
-stacks-read = record { back = back; only = only }
+pub stacks_read : StacksRead
+stacks_read = record { back = back; only = only }

@@ -42,26 +42,26 @@ split_at bound = about (first (pos 1) (pos 1)) (first (pos 1) (pos 1)) (1 ∷ re
 
 pub record MethodExamples : Type 0 where
   -- 2a ≤ 3 taken once does not show a ≤ 1 taken twice: 3 is over 2 × 1
-  pub not-by-multipliers : multipliers_say (about (first (pos 2) (pos 3)) (first (pos 1) (pos 1)) (words (2 ∷ 1 ∷ []))) ≡ Err (fault_of BoundNotShown 0 0 columns)
+  pub not_by_multipliers : multipliers_say (about (first (pos 2) (pos 3)) (first (pos 1) (pos 1)) (words (2 ∷ 1 ∷ []))) ≡ Err (fault_of BoundNotShown 0 0 columns)
   -- cut by 2 it is a ≤ 1
-  pub by-cut : cut_says multipliers_say (about (first (pos 2) (pos 3)) (first (pos 1) (pos 1)) (cut_by2 ++ words (1 ∷ 0 ∷ 1 ∷ []))) ≡ Ok tt
+  pub by_cut : cut_says multipliers_say (about (first (pos 2) (pos 3)) (first (pos 1) (pos 1)) (cut_by2 ++ words (1 ∷ 0 ∷ 1 ∷ []))) ≡ Ok tt
   -- −2a ≤ −3 cut by 2 is −a ≤ −2, since −3 divided by 2 is rounded down
-  pub rounded-down : cut_says look_up_says (about (first (negsuc 1) (negsuc 2)) (first (negsuc 0) (negsuc 1)) cut_by2) ≡ Ok tt
+  pub rounded_down_lem : cut_says look_up_says (about (first (negsuc 1) (negsuc 2)) (first (negsuc 0) (negsuc 1)) cut_by2) ≡ Ok tt
   -- and not −a ≤ −3: the look-up below finds no such fact
-  pub no-further : cut_says look_up_says (about (first (negsuc 1) (negsuc 2)) (first (negsuc 0) (negsuc 2)) cut_by2) ≡ Err (fault_of BoundNotShown 5 1 columns)
+  pub no_further : cut_says look_up_says (about (first (negsuc 1) (negsuc 2)) (first (negsuc 0) (negsuc 2)) cut_by2) ≡ Err (fault_of BoundNotShown 5 1 columns)
   -- 32 facts pass, 33 do not
-  pub most-facts : look_up_says (repeated 32) ≡ Ok tt
-  pub too-many-facts : look_up_says (repeated 33) ≡ Err (fault_of TooManyFacts 0 0 0)
+  pub most_facts_lem : look_up_says (repeated 32) ≡ Ok tt
+  pub too_many_facts : look_up_says (repeated 33) ≡ Err (fault_of TooManyFacts 0 0 0)
   -- a split's number of 1,000,000 or −1,000,000 is taken, one beyond is refused where it stands
-  pub greatest-number : split_says look_up_says (split_by (0 ∷ 15 ∷ 66 ∷ 64 ∷ [])) ≡ Ok tt
-  pub number-too-great : split_says look_up_says (split_by (0 ∷ 15 ∷ 66 ∷ 65 ∷ [])) ≡ Err (fault_of LayerRowTooLarge 1 0 0)
-  pub least-number : split_says look_up_says (split_by (255 ∷ 240 ∷ 189 ∷ 192 ∷ [])) ≡ Ok tt
-  pub number-too-small : split_says look_up_says (split_by (255 ∷ 240 ∷ 189 ∷ 191 ∷ [])) ≡ Err (fault_of LayerRowTooLarge 1 0 0)
-  pub greatest-bound : split_says look_up_says (split_at (0 ∷ 15 ∷ 66 ∷ 64 ∷ [])) ≡ Ok tt
-  pub bound-too-great : split_says look_up_says (split_at (0 ∷ 15 ∷ 66 ∷ 65 ∷ [])) ≡ Err (fault_of LayerRowTooLarge 33 0 columns)
+  pub greatest_number : split_says look_up_says (split_by (0 ∷ 15 ∷ 66 ∷ 64 ∷ [])) ≡ Ok tt
+  pub number_too_great : split_says look_up_says (split_by (0 ∷ 15 ∷ 66 ∷ 65 ∷ [])) ≡ Err (fault_of LayerRowTooLarge 1 0 0)
+  pub least_number : split_says look_up_says (split_by (255 ∷ 240 ∷ 189 ∷ 192 ∷ [])) ≡ Ok tt
+  pub number_too_small : split_says look_up_says (split_by (255 ∷ 240 ∷ 189 ∷ 191 ∷ [])) ≡ Err (fault_of LayerRowTooLarge 1 0 0)
+  pub greatest_bound : split_says look_up_says (split_at (0 ∷ 15 ∷ 66 ∷ 64 ∷ [])) ≡ Ok tt
+  pub bound_too_great : split_says look_up_says (split_at (0 ∷ 15 ∷ 66 ∷ 65 ∷ [])) ≡ Err (fault_of LayerRowTooLarge 33 0 columns)
   -- three layers that hand down: the fault of the look-up climbs to place 3 and depth 3
   pub climbed : split_says (cut_says (split_says look_up_says)) (about (first (pos 1) (pos 1)) (first (pos 1) (pos 0)) (replicate 3 0)) ≡ Err (fault_of BoundNotShown 3 3 columns)
   -- a depth of 255 stays
   pub deepest : moved 1 (Err (fault_of BoundNotShown 0 255 columns)) ≡ Err (fault_of BoundNotShown 1 255 columns)
   -- four facts are counted on a sheet of three rows
-  pub beyond-the-sheet : asked look_up_says 4 (replicate 3 (first (pos 1) (pos 1))) (first (pos 1) (pos 1)) [] ≡ Err (fault_of TooManyFacts 0 0 0)
+  pub beyond_the_sheet : asked look_up_says 4 (replicate 3 (first (pos 1) (pos 1))) (first (pos 1) (pos 1)) [] ≡ Err (fault_of TooManyFacts 0 0 0)

@@ -7,6 +7,6 @@ use Rattle.formats.specs.Witnesses.{read_witness}
 
 pub record ReaderExamples : Type 0 where
   -- the bytes of the sample table are read as it
-  pub sample-table : read_table sample_table_bytes ≡ Ok sample_table
+  pub sample_table_lem : read_table sample_table_bytes ≡ Ok sample_table
   -- and those of its witness, against that table
-  pub sample-witness : read_witness sample_table.transitions (shape_of sample_table.heading) sample_witness_bytes ≡ Ok sample_witness
+  pub sample_witness_lem : read_witness sample_table.transitions (shape_of sample_table.heading) sample_witness_bytes ≡ Ok sample_witness

@@ -10,10 +10,10 @@ use Rattle.rows.proofs.Chains.{stops, goes, checked}
 use Rattle.methods.specs.declared.layer.FirstByte.{FirstByte}
 use Rattle.methods.specs.declared.layer.FirstByte.TheVariants.{HandDown, Own}
 use Rattle.methods.specs.Layers.{first_byte_of, by_first, from}
-use Rattle.methods.specs.OpeningLaws.{yes-row}
+use Rattle.methods.specs.OpeningLaws.{yes_row}
 use Rattle.methods.specs.Openings.{row_says}
 use Rattle.methods.specs.Questions.{Question, question, Meaning, asked}
-use Rattle.methods.proofs.Asked.{asked-within}
+use Rattle.methods.proofs.Asked.{asked_within}
 use Rattle.extension.specs.Weakens.{lower_from, lowered, slack_tests, weaken_own, weaken_says, WeakenYes}
 use Rattle.extension.specs.WeakensAsk.{own_asked}
 use Rattle.extension.proofs.OrderTests.{le_test}
@@ -24,11 +24,11 @@ module _ (below : Meaning) (count : ℕ) (sheet : List Numbers) (goal : Numbers)
 
   -- the answer of the chain of tests is the answer to the question
   whole : (r : Said) → r ≡ weaken_says below (question (take count sheet) goal certificate (length sheet)) → r ≡ asked (weaken_says below) count sheet goal certificate
-  whole r e = e ∙ sym (asked-within count sheet goal certificate (weaken_says below) l)
+  whole r e = e ∙ sym (asked_within count sheet goal certificate (weaken_says below) l)
 
-  pub weaken-no-row : (f : Fault) → Err f ≡ row_says goal → Err f ≡ asked (weaken_says below) count sheet goal certificate
+  pub weaken_no_row : (f : Fault) → Err f ≡ row_says goal → Err f ≡ asked (weaken_says below) count sheet goal certificate
   unfolding weaken_says
-  weaken-no-row f e = whole (Err f) (stops _ _ f e)
+  weaken_no_row f e = whole (Err f) (stops _ _ f e)
 
   -- after the goal's test
   then : (r : Said) → Ok tt ≡ row_says goal → (x : Result FirstByte Fault) → x ≡ first_byte_of certificate →
@@ -38,33 +38,33 @@ module _ (below : Meaning) (count : ℕ) (sheet : List Numbers) (goal : Numbers)
   then r e x b h =
       whole r (goes _ _ _ e (h ∙ ap (λ (y : Result FirstByte Fault). by_first y (moved 1 (below (question (take count sheet) goal (drop 1 certificate) (length sheet)))) (weaken_own below (question (take count sheet) goal certificate (length sheet)))) b))
 
-  pub weaken-byte : (f : Fault) → Ok tt ≡ row_says goal → Err f ≡ first_byte_of certificate → Err f ≡ asked (weaken_says below) count sheet goal certificate
-  weaken-byte f e b = then (Err f) e (Err f) b refl
+  pub weaken_byte : (f : Fault) → Ok tt ≡ row_says goal → Err f ≡ first_byte_of certificate → Err f ≡ asked (weaken_says below) count sheet goal certificate
+  weaken_byte f e b = then (Err f) e (Err f) b refl
 
-  pub weaken-handed : (r : Said) → Ok tt ≡ row_says goal → Ok HandDown ≡ first_byte_of certificate →
+  pub weaken_handed : (r : Said) → Ok tt ≡ row_says goal → Ok HandDown ≡ first_byte_of certificate →
       r ≡ moved 1 (below (question (take count sheet) goal (take (length certificate - 1) (drop 1 certificate)) (length sheet))) → r ≡ asked (weaken_says below) count sheet goal certificate
-  weaken-handed r e b h =
+  weaken_handed r e b h =
       then r e (Ok HandDown) b (h ∙ ap (λ (part : List ℕ). moved 1 (below (question (take count sheet) goal part (length sheet)))) (take_rest certificate 1))
 
-  pub weaken-own : (r : Said) (goal' : Numbers) → Ok tt ≡ row_says goal → Ok Own ≡ first_byte_of certificate → goal' ≡ goal →
+  pub weaken_own_lem : (r : Said) (goal' : Numbers) → Ok tt ≡ row_says goal → Ok Own ≡ first_byte_of certificate → goal' ≡ goal →
       r ≡ own_asked below (question (take count sheet) goal' certificate (length sheet)) → r ≡ asked (weaken_says below) count sheet goal certificate
   unfolding weaken_own
-  weaken-own r goal' e b d h =
+  weaken_own_lem r goal' e b d h =
       then r e (Ok Own) b
       (h ∙ ap (λ (n : Numbers). own_asked below (question (take count sheet) n certificate (length sheet))) d
       ∙ ap (λ (part : List ℕ). slack_tests certificate and_then moved lower_from (below (question (take count sheet) (lowered goal certificate) part (length sheet)))) (take_rest certificate lower_from))
 
-first-is : (certificate : List ℕ) (b : ℕ) → 0 < length certificate → get_or certificate 0 0 ≡ b →
+first_is : (certificate : List ℕ) (b : ℕ) → 0 < length certificate → get_or certificate 0 0 ≡ b →
     first_byte_of certificate ≡ cond (eqb b 0) (Ok HandDown) (cond (eqb b 1) (Ok Own) (Err (fault_of LayerByte 0 0 0)))
-first-is certificate b l e = cond-true (ltb 0 (length certificate)) _ _ (lt-ltb _ _ l) ∙ ap (λ (x : ℕ). cond (eqb x 0) (Ok HandDown) (cond (eqb x 1) (Ok Own) (Err (fault_of LayerByte 0 0 0)))) e
+first_is certificate b l e = cond-true (ltb 0 (length certificate)) _ _ (lt-ltb _ _ l) ∙ ap (λ (x : ℕ). cond (eqb x 0) (Ok HandDown) (cond (eqb x 1) (Ok Own) (Err (fault_of LayerByte 0 0 0)))) e
 
-pub weaken-if : (below : Meaning) (q : Question) → WeakenYes below q → weaken_says below q ≡ Ok tt
+pub weaken_if : (below : Meaning) (q : Question) → WeakenYes below q → weaken_says below q ≡ Ok tt
 unfolding weaken_says weaken_own slack_tests
-weaken-if below q y =
-    sym (goes _ _ _ (yes-row q.goal y.goal-is-row)
+weaken_if below q y =
+    sym (goes _ _ _ (yes_row q.goal y.goal_is_row)
     (elim y.by [
-      | inl h ↦ sym (ap (λ (x : Result FirstByte Fault). by_first x (moved 1 (below (from 1 q))) (weaken_own below q)) (first-is q.certificate 0 h.first_byte.0 h.first_byte.1) ∙ ap (moved 1) h.below-yes)
-      | inr o ↦ sym (ap (λ (x : Result FirstByte Fault). by_first x (moved 1 (below (from 1 q))) (weaken_own below q)) (first-is q.certificate 1 o.first_byte.0 o.first_byte.1)
-          ∙ sym (goes _ _ _ (goes _ _ _ (checked _ _ (le-leb _ _ o.long)) (checked _ _ (and_from _ _ (le_test _ _ o.slack-least) (le_test _ _ o.slack-most))))
-          (sym (ap (moved lower_from) o.below-yes))))
+      | inl h ↦ sym (ap (λ (x : Result FirstByte Fault). by_first x (moved 1 (below (from 1 q))) (weaken_own below q)) (first_is q.certificate 0 h.first_byte.0 h.first_byte.1) ∙ ap (moved 1) h.below_yes)
+      | inr o ↦ sym (ap (λ (x : Result FirstByte Fault). by_first x (moved 1 (below (from 1 q))) (weaken_own below q)) (first_is q.certificate 1 o.first_byte.0 o.first_byte.1)
+          ∙ sym (goes _ _ _ (goes _ _ _ (checked _ _ (le-leb _ _ o.long)) (checked _ _ (and_from _ _ (le_test _ _ o.slack_least) (le_test _ _ o.slack_most))))
+          (sym (ap (moved lower_from) o.below_yes))))
     ]))

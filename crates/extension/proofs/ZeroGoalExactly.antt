@@ -11,9 +11,9 @@ use Rattle.methods.specs.Questions.{Question}
 use Rattle.extension.specs.ZeroGoals.{uses, zero_goal_tests, zero_goal_says, ZeroGoalYes}
 use Rattle.extension.proofs.OrderTests.{le_test}
 
-pub zero-goal-if : (q : Question) → ZeroGoalYes q → zero_goal_says q ≡ Ok tt
+pub zero_goal_if : (q : Question) → ZeroGoalYes q → zero_goal_says q ≡ Ok tt
 unfolding zero_goal_tests
-zero-goal-if q y =
+zero_goal_if q y =
     sym (goes _ _ _ (checked _ _ (eq-eqb _ _ y.empty))
     (goes _ _ _ (sym (ap (unless_found ColumnDiffers) (none_first (uses q.goal) columns (λ k l. ap not ((int_eq_test-decides _ _).1 (y.zeros k l))))))
     (checked _ _ (le_test _ _ y.bound))))

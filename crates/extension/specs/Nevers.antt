@@ -12,12 +12,12 @@ use Rattle.methods.specs.Questions.{Meaning, Lawful}
 abbrev pub never_says : Meaning
 never_says q = Err (fault_of BoundNotShown 0 0 columns)
 
-refused-place : (f : Fault) → ◌≡◌ {A = Said} (Err (fault_of BoundNotShown 0 0 columns)) (Err f) → f.place ≡ 0
-refused-place f e = let s : fault_of BoundNotShown 0 0 columns ≡ f = cc in sym (ap (λ (x : Fault). x.place) s)
+refused_place : (f : Fault) → ◌≡◌ {A = Said} (Err (fault_of BoundNotShown 0 0 columns)) (Err f) → f.place ≡ 0
+refused_place f e = let s : fault_of BoundNotShown 0 0 columns ≡ f = cc in sym (ap (λ (x : Fault). x.place) s)
 
 pub never_lawful : Lawful never_says
 never_lawful =
     record {
       sound = λ q e. never _ e;
-      placed = λ q f e. let p = refused-place f e in omega arith;
+      placed = λ q f e. let p = refused_place f e in omega arith;
     }

@@ -60,11 +60,11 @@ weaken_says below q =
 pub record WeakenOwnYes (below : Meaning) (q : Question) : Type 0 where
   pub first_byte : (0 < length q.certificate) × (slice_index q.certificate 0 ≡ 1)
   pub long : lower_from ≤ length q.certificate
-  pub slack-least : pos 0 ≤ℤ slack q.certificate
-  pub slack-most : slack q.certificate ≤ℤ pos (magnitude_of WrittenNumber)
-  pub below-yes : below (stronger q) ≡ Ok tt
+  pub slack_least : pos 0 ≤ℤ slack q.certificate
+  pub slack_most : slack q.certificate ≤ℤ pos (magnitude_of WrittenNumber)
+  pub below_yes : below (stronger q) ≡ Ok tt
 
 -- when the layer says yes
 pub record WeakenYes (below : Meaning) (q : Question) : Type 0 where
-  pub goal-is-row : Within (magnitude_of RowNumber) q.goal
+  pub goal_is_row : Within (magnitude_of RowNumber) q.goal
   pub by : HandedYes below q ⊎ WeakenOwnYes below q

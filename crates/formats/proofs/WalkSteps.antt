@@ -10,60 +10,60 @@ use Rattle.formats.specs.Pieces.{piece_end, piece_says}
 use Rattle.formats.specs.Walks.{PieceData, piece_data, left, pieces_at, walk_says}
 
 module _ (bytes : List ℕ) where
-  none-past : (n at : ℕ) → length bytes ≤ at → pieces_at bytes n at ≡ []
+  none_past : (n at : ℕ) → length bytes ≤ at → pieces_at bytes n at ≡ []
   unfolding pieces_at
-  none-past zero at l = refl
-  none-past (suc n) at l = cond-false (ltb at (length bytes)) (piece_data bytes at ∷ pieces_at bytes n (piece_end bytes at)) [] (le-ltb _ _ l)
+  none_past zero at l = refl
+  none_past (suc n) at l = cond-false (ltb at (length bytes)) (piece_data bytes at ∷ pieces_at bytes n (piece_end bytes at)) [] (le-ltb _ _ l)
 
-  pieces-enough : (n m at : ℕ) → left bytes at ≤ n → left bytes at ≤ m → pieces_at bytes n at ≡ pieces_at bytes m at
+  pieces_enough : (n m at : ℕ) → left bytes at ≤ n → left bytes at ≤ m → pieces_at bytes n at ≡ pieces_at bytes m at
   unfolding pieces_at
-  pieces-enough zero m at h k = sym (none-past m at (omega arith))
-  pieces-enough (suc n) zero at h k = none-past (suc n) at (omega arith)
-  pieces-enough (suc n) (suc m) at h k =
+  pieces_enough zero m at h k = sym (none_past m at (omega arith))
+  pieces_enough (suc n) zero at h k = none_past (suc n) at (omega arith)
+  pieces_enough (suc n) (suc m) at h k =
       elim (cases_lt at (length bytes)) [
-        | inl l ↦ ap (λ (ps : List PieceData). cond (ltb at (length bytes)) (piece_data bytes at ∷ ps) []) (pieces-enough n m (piece_end bytes at) (omega arith) (omega arith))
-        | inr l ↦ none-past (suc n) at l ∙ sym (none-past (suc m) at l)
+        | inl l ↦ ap (λ (ps : List PieceData). cond (ltb at (length bytes)) (piece_data bytes at ∷ ps) []) (pieces_enough n m (piece_end bytes at) (omega arith) (omega arith))
+        | inr l ↦ none_past (suc n) at l ∙ sym (none_past (suc m) at l)
       ]
 
   pub pieces_more : (at : ℕ) → at < length bytes → pieces_at bytes (left bytes at) at ≡ piece_data bytes at ∷ pieces_at bytes (left bytes (piece_end bytes at)) (piece_end bytes at)
   unfolding pieces_at
   pieces_more at l =
-      pieces-enough (left bytes at) (suc (left bytes (at + 1))) at (omega arith) (omega arith)
+      pieces_enough (left bytes at) (suc (left bytes (at + 1))) at (omega arith) (omega arith)
       ∙ cond-true (ltb at (length bytes)) (piece_data bytes at ∷ pieces_at bytes (left bytes (at + 1)) (piece_end bytes at)) [] (lt-ltb _ _ l)
-      ∙ ap (λ (ps : List PieceData). piece_data bytes at ∷ ps) (pieces-enough (left bytes (at + 1)) (left bytes (piece_end bytes at)) (piece_end bytes at) (omega arith) (omega arith))
+      ∙ ap (λ (ps : List PieceData). piece_data bytes at ∷ ps) (pieces_enough (left bytes (at + 1)) (left bytes (piece_end bytes at)) (piece_end bytes at) (omega arith) (omega arith))
 
-  pub pieces-all : (at : ℕ) → length bytes ≤ at → pieces_at bytes (left bytes at) at ≡ []
-  pieces-all at l = none-past (left bytes at) at l
+  pub pieces_all : (at : ℕ) → length bytes ≤ at → pieces_at bytes (left bytes at) at ≡ []
+  pieces_all at l = none_past (left bytes at) at l
 
   module _ {S : Type 0} (kind : FaultKind) (test : S → PieceData → Said) (next : S → PieceData → S) where
-    walk-past : (n : ℕ) (s : S) (at : ℕ) → length bytes ≤ at → walk_says kind test next bytes n s at ≡ Ok tt
+    walk_past : (n : ℕ) (s : S) (at : ℕ) → length bytes ≤ at → walk_says kind test next bytes n s at ≡ Ok tt
     unfolding walk_says
-    walk-past zero s at l = refl
-    walk-past (suc n) s at l = cond-false (ltb at (length bytes)) ((piece_says kind bytes at and_then test s (piece_data bytes at)) and_then walk_says kind test next bytes n (next s (piece_data bytes at)) (piece_end bytes at)) (Ok tt) (le-ltb _ _ l)
+    walk_past zero s at l = refl
+    walk_past (suc n) s at l = cond-false (ltb at (length bytes)) ((piece_says kind bytes at and_then test s (piece_data bytes at)) and_then walk_says kind test next bytes n (next s (piece_data bytes at)) (piece_end bytes at)) (Ok tt) (le-ltb _ _ l)
 
-    walk-enough : (n m : ℕ) (s : S) (at : ℕ) → left bytes at ≤ n → left bytes at ≤ m → walk_says kind test next bytes n s at ≡ walk_says kind test next bytes m s at
+    walk_enough : (n m : ℕ) (s : S) (at : ℕ) → left bytes at ≤ n → left bytes at ≤ m → walk_says kind test next bytes n s at ≡ walk_says kind test next bytes m s at
     unfolding walk_says
-    walk-enough zero m s at h k = sym (walk-past m s at (omega arith))
-    walk-enough (suc n) zero s at h k = walk-past (suc n) s at (omega arith)
-    walk-enough (suc n) (suc m) s at h k =
+    walk_enough zero m s at h k = sym (walk_past m s at (omega arith))
+    walk_enough (suc n) zero s at h k = walk_past (suc n) s at (omega arith)
+    walk_enough (suc n) (suc m) s at h k =
         elim (cases_lt at (length bytes)) [
-          | inl l ↦ ap (λ (x : Said). cond (ltb at (length bytes)) ((piece_says kind bytes at and_then test s (piece_data bytes at)) and_then x) (Ok tt)) (walk-enough n m (next s (piece_data bytes at)) (piece_end bytes at) (omega arith) (omega arith))
-          | inr l ↦ walk-past (suc n) s at l ∙ sym (walk-past (suc m) s at l)
+          | inl l ↦ ap (λ (x : Said). cond (ltb at (length bytes)) ((piece_says kind bytes at and_then test s (piece_data bytes at)) and_then x) (Ok tt)) (walk_enough n m (next s (piece_data bytes at)) (piece_end bytes at) (omega arith) (omega arith))
+          | inr l ↦ walk_past (suc n) s at l ∙ sym (walk_past (suc m) s at l)
         ]
 
     -- the walk from a piece on
     pub walk_step : (s : S) (at : ℕ) → at < length bytes → walk_says kind test next bytes (left bytes at) s at ≡ ((piece_says kind bytes at and_then test s (piece_data bytes at)) and_then walk_says kind test next bytes (left bytes (piece_end bytes at)) (next s (piece_data bytes at)) (piece_end bytes at))
     unfolding walk_says
     walk_step s at l =
-        walk-enough (left bytes at) (suc (left bytes (at + 1))) s at (omega arith) (omega arith)
+        walk_enough (left bytes at) (suc (left bytes (at + 1))) s at (omega arith) (omega arith)
         ∙ cond-true (ltb at (length bytes)) ((piece_says kind bytes at and_then test s (piece_data bytes at)) and_then walk_says kind test next bytes (left bytes (at + 1)) (next s (piece_data bytes at)) (piece_end bytes at)) (Ok tt) (lt-ltb _ _ l)
-        ∙ ap (λ (x : Said). (piece_says kind bytes at and_then test s (piece_data bytes at)) and_then x) (walk-enough (left bytes (at + 1)) (left bytes (piece_end bytes at)) (next s (piece_data bytes at)) (piece_end bytes at) (omega arith) (omega arith))
+        ∙ ap (λ (x : Said). (piece_says kind bytes at and_then test s (piece_data bytes at)) and_then x) (walk_enough (left bytes (at + 1)) (left bytes (piece_end bytes at)) (next s (piece_data bytes at)) (piece_end bytes at) (omega arith) (omega arith))
 
-    pub walk-fault : (s : S) (at : ℕ) (f : Fault) → at < length bytes → Err f ≡ (piece_says kind bytes at and_then test s (piece_data bytes at)) → Err f ≡ walk_says kind test next bytes (left bytes at) s at
-    walk-fault s at f l e = stops _ _ _ e ∙ sym (walk_step s at l)
+    pub walk_fault : (s : S) (at : ℕ) (f : Fault) → at < length bytes → Err f ≡ (piece_says kind bytes at and_then test s (piece_data bytes at)) → Err f ≡ walk_says kind test next bytes (left bytes at) s at
+    walk_fault s at f l e = stops _ _ _ e ∙ sym (walk_step s at l)
 
     pub walk_more : (s : S) (at : ℕ) → at < length bytes → Ok tt ≡ (piece_says kind bytes at and_then test s (piece_data bytes at)) → walk_says kind test next bytes (left bytes (piece_end bytes at)) (next s (piece_data bytes at)) (piece_end bytes at) ≡ walk_says kind test next bytes (left bytes at) s at
     walk_more s at l e = goes _ _ _ e refl ∙ sym (walk_step s at l)
 
-    pub walk-all : (s : S) (at : ℕ) → length bytes ≤ at → Ok tt ≡ walk_says kind test next bytes (left bytes at) s at
-    walk-all s at l = sym (walk-past (left bytes at) s at l)
+    pub walk_all : (s : S) (at : ℕ) → length bytes ≤ at → Ok tt ≡ walk_says kind test next bytes (left bytes at) s at
+    walk_all s at l = sym (walk_past (left bytes at) s at l)

@@ -4,7 +4,7 @@ use Rattle.std.proofs.lemmas.Bool.{ltb-true, leb-true, eqb-true, and_parts}
 use Rattle.rows.specs.declared.fault.Fault.{Fault}
 use Rattle.rows.specs.declared.fault.FaultKind.TheVariants.{WitnessVersion, WitnessLength, WitnessCount}
 use Rattle.rows.specs.Faults.{Said, ◌and_then◌, check}
-use Rattle.rows.proofs.Chains.{both, check-true}
+use Rattle.rows.proofs.Chains.{both, check_true}
 use Rattle.records.specs.declared.shape.Shape.{Shape}
 use Rattle.records.specs.Limits.{most_places, most_inners, most_conditions, most_entries}
 use Rattle.formats.specs.Pieces.{byte_at, fault_at, rest_from, version_says}
@@ -14,17 +14,17 @@ use Rattle.formats.specs.Witnesses.{kind_from, count_from, plan_count_from, entr
 
 -- a yes of a chain is one of its first test, and of the rest
 pub head : (t : Bool) (f : Fault) (d : Said) → (check t f and_then d) ≡ Ok tt → (t ≡ true) × (d ≡ Ok tt)
-head t f d e = let r = both (check t f) d e in (check-true t f r.0, r.1)
+head t f d e = let r = both (check t f) d e in (check_true t f r.0, r.1)
 
 module _ (shape : Shape) (places inners : List ℕ) (offset : ℕ) (rest : List ℕ) (e : place_says shape places inners offset rest ≡ Ok tt) where
-  pub place-room : length places < most_places
+  pub place_room : length places < most_places
   unfolding place_says
-  place-room = ltb-true (length places) most_places (head (ltb (length places) most_places) (fault_at WitnessCount (rest_from offset + kind_from)) _ e).0
+  place_room = ltb-true (length places) most_places (head (ltb (length places) most_places) (fault_at WitnessCount (rest_from offset + kind_from)) _ e).0
 
   -- how many entries there are, and how long the piece is
-  pub place-plan : (1 ≤ entries shape rest) × (entries shape rest ≤ most_entries) × (length rest ≡ place_length shape rest)
+  pub place_plan : (1 ≤ entries shape rest) × (entries shape rest ≤ most_entries) × (length rest ≡ place_length shape rest)
   unfolding place_says
-  place-plan =
+  place_plan =
       let a = (head (ltb (length places) most_places) (fault_at WitnessCount (rest_from offset + kind_from)) _ e).1 in
       let b = (head (leb (count_from + 1) (length rest)) (fault_at WitnessLength offset) _ a).1 in
       let c = (head (leb 0 (byte_at rest count_from) && leb (byte_at rest count_from) most_conditions) (fault_at WitnessCount (rest_from offset + count_from)) _ b).1 in
@@ -42,12 +42,12 @@ module _ (shape : Shape) (inners : List ℕ) (offset : ℕ) (rest : List ℕ) (e
   unfolding inner_says
   inner_room = ltb-true (length inners) most_inners (head (ltb (length inners) most_inners) (fault_at WitnessCount (rest_from offset + kind_from)) _ e).0
 
-pub kind-reaches : (p : PieceData) → kind_says p ≡ Ok tt → 1 ≤ length p.rest
+pub kind_reaches : (p : PieceData) → kind_says p ≡ Ok tt → 1 ≤ length p.rest
 unfolding kind_says
-kind-reaches p e = leb-true 1 (length p.rest) (head (leb (kind_from + 1) (length p.rest)) (fault_at WitnessLength p.offset) _ e).0
+kind_reaches p e = leb-true 1 (length p.rest) (head (leb (kind_from + 1) (length p.rest)) (fault_at WitnessLength p.offset) _ e).0
 
 -- a witness that passes has pieces that pass
-pub content-pieces : (transitions : List TransitionData) (shape : Shape) (bytes : List ℕ) → witness_says transitions shape bytes ≡ Ok tt → pieces_say shape bytes ≡ Ok tt
+pub content_pieces : (transitions : List TransitionData) (shape : Shape) (bytes : List ℕ) → witness_says transitions shape bytes ≡ Ok tt → pieces_say shape bytes ≡ Ok tt
 unfolding content_says
-content-pieces transitions shape bytes e =
+content_pieces transitions shape bytes e =
     (both (pieces_say shape bytes) (references_say shape (named_in transitions (numbers_in (witness_at shape bytes))) (pieces_of bytes)) (both (version_says WitnessVersion bytes) (content_says transitions shape bytes) e).1).0

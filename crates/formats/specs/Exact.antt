@@ -10,8 +10,8 @@ use Rattle.formats.specs.Writing.{table_bytes, witness_bytes}
 
 pub record TableExactly (bytes : List ℕ) : Type 0 where
   pub read_back : (t : TableData) → ValidTable t → bytes ≡ table_bytes t → read_table bytes ≡ Ok t
-  pub only-written : (t : TableData) → read_table bytes ≡ Ok t → ValidTable t × (bytes ≡ table_bytes t)
+  pub only_written : (t : TableData) → read_table bytes ≡ Ok t → ValidTable t × (bytes ≡ table_bytes t)
 
 pub record WitnessExactly (transitions : List TransitionData) (shape : Shape) (bytes : List ℕ) : Type 0 where
   pub read_back : (w : WitnessData) → ValidWitness transitions shape w → bytes ≡ witness_bytes shape w → read_witness transitions shape bytes ≡ Ok w
-  pub only-written : (w : WitnessData) → read_witness transitions shape bytes ≡ Ok w → ValidWitness transitions shape w × (bytes ≡ witness_bytes shape w)
+  pub only_written : (w : WitnessData) → read_witness transitions shape bytes ≡ Ok w → ValidWitness transitions shape w × (bytes ≡ witness_bytes shape w)

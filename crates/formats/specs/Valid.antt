@@ -32,8 +32,8 @@ pub record ShapeWithin (shape : Shape) : Type 0 where
 -- a row or an expression over the values and choices of a shape: written numbers, zero in every other column
 pub record StoredRow (shape : Shape) (row : Numbers) : Type 0 where
   pub sized : length row.coefficients ≡ columns
-  pub other-values : (k : ℕ) → shape.values ≤ k → k < most_values → slice_index_or row.coefficients k (pos 0) ≡ pos 0
-  pub other-choices : (k : ℕ) → most_values + shape.choices ≤ k → k < columns → slice_index_or row.coefficients k (pos 0) ≡ pos 0
+  pub other_values : (k : ℕ) → shape.values ≤ k → k < most_values → slice_index_or row.coefficients k (pos 0) ≡ pos 0
+  pub other_choices : (k : ℕ) → most_values + shape.choices ≤ k → k < columns → slice_index_or row.coefficients k (pos 0) ≡ pos 0
   pub written : Within (magnitude_of WrittenNumber) row
 
 -- so many rows at most
@@ -42,7 +42,7 @@ pub record StoredRows (shape : Shape) (most : ℕ) (rows : List Numbers) : Type 
   pub each : AllByRecursion (StoredRow shape) rows
 
 pub record ValidHeading (h : HeadingData) : Type 0 where
-  pub some-value : 1 ≤ h.values
+  pub some_value : 1 ≤ h.values
   pub within : ShapeWithin (shape_of h)
   pub start : IsPlace h.start
   pub initial : StoredRows (over_values (shape_of h)) most_initial h.initial
@@ -52,7 +52,7 @@ pub record ValidTransition (shape : Shape) (t : TransitionData) : Type 0 where
   pub start : IsPlace t.start
   pub target : IsPlace t.target
   pub guard : StoredRows (over_values shape) most_guards t.guard
-  pub update-each : length t.updates ≡ shape.values
+  pub update_each : length t.updates ≡ shape.values
   pub updates : AllByRecursion (StoredRow shape) t.updates
 
 pub record ValidTable (t : TableData) : Type 0 where
@@ -68,14 +68,14 @@ pub record ValidEntry (shape : Shape) (e : EntryData) : Type 0 where
 pub record ValidPlace (shape : Shape) (p : PlaceData) : Type 0 where
   pub number : IsWord p.number
   pub condition : StoredRows (over_values shape) most_conditions p.condition
-  pub tested-count : length p.tested ≤ most_tested
+  pub tested_count : length p.tested ≤ most_tested
   pub tested : AllByRecursion (ValidEntry shape) p.tested
   pub last : IsWord p.last
 
 pub record ValidInner (shape : Shape) (i : InnerData) : Type 0 where
   pub number : IsWord i.number
   pub restrictions : StoredRows shape most_restrictions i.restrictions
-  pub choice-each : length i.choices ≡ shape.choices
+  pub choice_each : length i.choices ≡ shape.choices
   pub choices : AllByRecursion (StoredRow (over_values shape)) i.choices
 
 -- the table's transition with a number (the first, where the numbers do not rise)
@@ -103,11 +103,11 @@ InnerFits transitions w i =
     (t : TransitionData) × Transition-is transitions i.number t × (among t.start (place_numbers w) ≡ true) × (among t.target (place_numbers w) ≡ true)
 
 pub record ValidWitness (transitions : List TransitionData) (shape : Shape) (w : WitnessData) : Type 0 where
-  pub place-count : length w.places ≤ most_places
+  pub place_count_lem : length w.places ≤ most_places
   pub places : AllByRecursion (ValidPlace shape) w.places
-  pub places-rising : Rising 0 (place_numbers w)
-  pub inner-count : length w.inners ≤ most_inners
+  pub places_rising : Rising 0 (place_numbers w)
+  pub inner_count_lem : length w.inners ≤ most_inners
   pub inners : AllByRecursion (ValidInner shape) w.inners
-  pub inners-rising : Rising 0 (inner_numbers w)
-  pub plans-fit : AllByRecursion (PlanFits transitions w) w.places
-  pub inners-fit : AllByRecursion (InnerFits transitions w) w.inners
+  pub inners_rising : Rising 0 (inner_numbers w)
+  pub plans_fit : AllByRecursion (PlanFits transitions w) w.places
+  pub inners_fit : AllByRecursion (InnerFits transitions w) w.inners

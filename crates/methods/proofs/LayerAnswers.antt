@@ -10,80 +10,80 @@ use Rattle.rows.proofs.Chains.{never, checked}
 use Rattle.methods.specs.declared.layer.FirstByte.{FirstByte}
 use Rattle.methods.specs.declared.layer.FirstByte.TheVariants.{HandDown, Own}
 use Rattle.methods.specs.Cuts.{HandedYes}
-use Rattle.methods.specs.LayerLaws.{by_first-cases, moved-yes}
+use Rattle.methods.specs.LayerLaws.{by_first-cases, moved_yes}
 use Rattle.methods.specs.Layers.{first_byte_of, by_first, from, room_says, layered}
-use Rattle.methods.specs.OpeningLaws.{opened-yes, yes-opened}
+use Rattle.methods.specs.OpeningLaws.{opened_yes, yes_opened}
 use Rattle.methods.specs.Openings.{most_facts, opening, Begun}
 use Rattle.methods.specs.Questions.{Question, question, Meaning, asked}
-use Rattle.methods.proofs.Asked.{front, asked-stops, asked-goes}
+use Rattle.methods.proofs.Asked.{front, asked_stops, asked_goes}
 
 module _ (own : Meaning → Meaning) (below : Meaning) (count : ℕ) (sheet : List Numbers) (goal : Numbers) (certificate : List ℕ) where
-  pub layer-stops : (f : Fault) → count ≤ length sheet → Err f ≡ opening (take (count - 0) sheet) goal → Err f ≡ asked (layered own below) count sheet goal certificate
+  pub layer_stops : (f : Fault) → count ≤ length sheet → Err f ≡ opening (take (count - 0) sheet) goal → Err f ≡ asked (layered own below) count sheet goal certificate
   unfolding layered
-  layer-stops f l e = asked-stops count sheet goal certificate _ f l e
+  layer_stops f l e = asked_stops count sheet goal certificate _ f l e
 
-  pub layer-byte : (f : Fault) → count ≤ length sheet → Ok tt ≡ opening (take (count - 0) sheet) goal → Err f ≡ first_byte_of certificate → Err f ≡ asked (layered own below) count sheet goal certificate
+  pub layer_byte : (f : Fault) → count ≤ length sheet → Ok tt ≡ opening (take (count - 0) sheet) goal → Err f ≡ first_byte_of certificate → Err f ≡ asked (layered own below) count sheet goal certificate
   unfolding layered
-  layer-byte f l e b =
+  layer_byte f l e b =
       let q = question (take (count - 0) sheet) goal certificate (length sheet) in
-      asked-goes count sheet goal certificate _ (Err f) l e (ap (λ (r : Result FirstByte Fault). by_first r (moved 1 (below (from 1 q))) (own below q)) b)
+      asked_goes count sheet goal certificate _ (Err f) l e (ap (λ (r : Result FirstByte Fault). by_first r (moved 1 (below (from 1 q))) (own below q)) b)
 
-  pub layer-handed : (r : Said) → count ≤ length sheet → Ok tt ≡ opening (take (count - 0) sheet) goal → Ok HandDown ≡ first_byte_of certificate →
+  pub layer_handed : (r : Said) → count ≤ length sheet → Ok tt ≡ opening (take (count - 0) sheet) goal → Ok HandDown ≡ first_byte_of certificate →
       r ≡ moved 1 (below (question (take count sheet) goal (take (length certificate - 1) (drop 1 certificate)) (length sheet))) → r ≡ asked (layered own below) count sheet goal certificate
   unfolding layered
-  layer-handed r l e b h =
+  layer_handed r l e b h =
       let q = question (take (count - 0) sheet) goal certificate (length sheet) in
-      asked-goes count sheet goal certificate _ r l e
+      asked_goes count sheet goal certificate _ r l e
       (h ∙ ap (λ (part : List ℕ). moved 1 (below (question (take count sheet) goal part (length sheet)))) (take_rest certificate 1)
       ∙ ap (λ (fs : List Numbers). moved 1 (below (question fs goal (drop 1 certificate) (length sheet)))) (sym (front sheet count))
       ∙ ap (λ (x : Result FirstByte Fault). by_first x (moved 1 (below (from 1 q))) (own below q)) b)
 
-  pub layer-own : (r : Said) → count ≤ length sheet → Ok tt ≡ opening (take (count - 0) sheet) goal → Ok Own ≡ first_byte_of certificate →
+  pub layer_own : (r : Said) → count ≤ length sheet → Ok tt ≡ opening (take (count - 0) sheet) goal → Ok Own ≡ first_byte_of certificate →
       r ≡ own below (question (take count sheet) goal certificate (length sheet)) → r ≡ asked (layered own below) count sheet goal certificate
   unfolding layered
-  layer-own r l e b h =
+  layer_own r l e b h =
       let q = question (take (count - 0) sheet) goal certificate (length sheet) in
-      asked-goes count sheet goal certificate _ r l e
+      asked_goes count sheet goal certificate _ r l e
       (h ∙ ap (λ (fs : List Numbers). own below (question fs goal certificate (length sheet))) (sym (front sheet count))
       ∙ ap (λ (x : Result FirstByte Fault). by_first x (moved 1 (below (from 1 q))) (own below q)) b)
 
 -- the first byte
-first-is : (certificate : List ℕ) (b : ℕ) → 0 < length certificate → get_or certificate 0 0 ≡ b →
+first_is : (certificate : List ℕ) (b : ℕ) → 0 < length certificate → get_or certificate 0 0 ≡ b →
     first_byte_of certificate ≡ cond (eqb b 0) (Ok HandDown) (cond (eqb b 1) (Ok Own) (Err (fault_of LayerByte 0 0 0)))
-first-is certificate b l e = cond-true (ltb 0 (length certificate)) _ _ (lt-ltb _ _ l) ∙ ap (λ (x : ℕ). cond (eqb x 0) (Ok HandDown) (cond (eqb x 1) (Ok Own) (Err (fault_of LayerByte 0 0 0)))) e
+first_is certificate b l e = cond-true (ltb 0 (length certificate)) _ _ (lt-ltb _ _ l) ∙ ap (λ (x : ℕ). cond (eqb x 0) (Ok HandDown) (cond (eqb x 1) (Ok Own) (Err (fault_of LayerByte 0 0 0)))) e
 
 -- a layer says yes by handing down or by its own part
-pub layer-only : (own : Meaning → Meaning) (below : Meaning) (q : Question) → layered own below q ≡ Ok tt →
+pub layer_only : (own : Meaning → Meaning) (below : Meaning) (q : Question) → layered own below q ≡ Ok tt →
     Begun q × (HandedYes below q ⊎ ((0 < length q.certificate) × (get_or q.certificate 0 0 ≡ 1) × (own below q ≡ Ok tt)))
 unfolding layered
-layer-only own below q e =
-    let y = opened-yes (λ q. by_first (first_byte_of q.certificate) (moved 1 (below (from 1 q))) (own below q)) q e in (
+layer_only own below q e =
+    let y = opened_yes (λ q. by_first (first_byte_of q.certificate) (moved 1 (below (from 1 q))) (own below q)) q e in (
       y.0,
       by_first-cases q.certificate (moved 1 (below (from 1 q))) (own below q) (Ok tt) y.1
           (λ x. never _ x)
-          (λ s t x. inl (record { first_byte = (s, t); below-yes = moved-yes 1 _ x }))
+          (λ s t x. inl (record { first_byte = (s, t); below_yes = moved_yes 1 _ x }))
           (λ s t x. inr (s, t, x))
           (λ x. never _ x),
     )
 
-pub handed-if : (own : Meaning → Meaning) (below : Meaning) (q : Question) → Begun q → HandedYes below q → layered own below q ≡ Ok tt
+pub handed_if : (own : Meaning → Meaning) (below : Meaning) (q : Question) → Begun q → HandedYes below q → layered own below q ≡ Ok tt
 unfolding layered
-handed-if own below q b h =
-    yes-opened (λ q. by_first (first_byte_of q.certificate) (moved 1 (below (from 1 q))) (own below q)) q b
-    (ap (λ (x : Result FirstByte Fault). by_first x (moved 1 (below (from 1 q))) (own below q)) (first-is q.certificate 0 h.first_byte.0 h.first_byte.1)
-    ∙ ap (moved 1) h.below-yes)
+handed_if own below q b h =
+    yes_opened (λ q. by_first (first_byte_of q.certificate) (moved 1 (below (from 1 q))) (own below q)) q b
+    (ap (λ (x : Result FirstByte Fault). by_first x (moved 1 (below (from 1 q))) (own below q)) (first_is q.certificate 0 h.first_byte.0 h.first_byte.1)
+    ∙ ap (moved 1) h.below_yes)
 
-pub own-if : (own : Meaning → Meaning) (below : Meaning) (q : Question) → Begun q → 0 < length q.certificate → get_or q.certificate 0 0 ≡ 1 → own below q ≡ Ok tt → layered own below q ≡ Ok tt
+pub own_if : (own : Meaning → Meaning) (below : Meaning) (q : Question) → Begun q → 0 < length q.certificate → get_or q.certificate 0 0 ≡ 1 → own below q ≡ Ok tt → layered own below q ≡ Ok tt
 unfolding layered
-own-if own below q b s t y =
-    yes-opened (λ q. by_first (first_byte_of q.certificate) (moved 1 (below (from 1 q))) (own below q)) q b
-    (ap (λ (x : Result FirstByte Fault). by_first x (moved 1 (below (from 1 q))) (own below q)) (first-is q.certificate 1 s t) ∙ y)
+own_if own below q b s t y =
+    yes_opened (λ q. by_first (first_byte_of q.certificate) (moved 1 (below (from 1 q))) (own below q)) q b
+    (ap (λ (x : Result FirstByte Fault). by_first x (moved 1 (below (from 1 q))) (own below q)) (first_is q.certificate 1 s t) ∙ y)
 
 -- room for one more fact
-pub yes-room : (q : Question) → length q.facts < most_facts → length q.facts < q.rows → Ok tt ≡ room_says q
-yes-room q l h = checked _ _ (and_from (ltb (length q.facts) most_facts) (ltb (length q.facts) q.rows) (lt-ltb _ _ l) (lt-ltb _ _ h))
+pub yes_room : (q : Question) → length q.facts < most_facts → length q.facts < q.rows → Ok tt ≡ room_says q
+yes_room q l h = checked _ _ (and_from (ltb (length q.facts) most_facts) (ltb (length q.facts) q.rows) (lt-ltb _ _ l) (lt-ltb _ _ h))
 
 -- the test for room, by the count of facts
-pub room-count : (count : ℕ) (sheet : List Numbers) (goal : Numbers) (certificate : List ℕ) → count ≤ length sheet →
+pub room_count : (count : ℕ) (sheet : List Numbers) (goal : Numbers) (certificate : List ℕ) → count ≤ length sheet →
     check (ltb count most_facts && ltb count (length sheet)) (fault_of NoRoomForFact 0 0 0) ≡ room_says (question (take count sheet) goal certificate (length sheet))
-room-count count sheet goal certificate l = ap (λ (n : ℕ). check (ltb n most_facts && ltb n (length sheet)) (fault_of NoRoomForFact 0 0 0)) (sym (length-take-le count sheet l))
+room_count count sheet goal certificate l = ap (λ (n : ℕ). check (ltb n most_facts && ltb n (length sheet)) (fault_of NoRoomForFact 0 0 0)) (sym (length-take-le count sheet l))

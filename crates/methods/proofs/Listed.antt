@@ -10,10 +10,10 @@ use Rattle.std.specs.List.{ContainsAt as Has}
 use Rattle.rows.specs.declared.numbers.Numbers.{Numbers}
 use Rattle.rows.specs.Wholes.{alike}
 use Rattle.rows.proofs.Chains.{goes, checked}
-use Rattle.rows.proofs.Equalities.{alike-decides}
+use Rattle.rows.proofs.Equalities.{alike_decides}
 use Rattle.methods.specs.LooksUp.{covers, listed, search_says, look_up_says, Covers, LookUpYes}
-use Rattle.methods.specs.LooksUpLaws.{listed-yes, search-yes}
-use Rattle.methods.specs.OpeningLaws.{opened-yes, yes-opened}
+use Rattle.methods.specs.LooksUpLaws.{listed_yes, search_yes}
+use Rattle.methods.specs.OpeningLaws.{opened_yes, yes_opened}
 use Rattle.methods.specs.Questions.{Question}
 
 -- a loop over the facts: what is left answers as the whole
@@ -29,30 +29,30 @@ module _ (goal : Numbers) (facts : List Numbers) (i : ℕ) (inv : listed goal (d
   pub listed_more : (d : Numbers) → i < length facts → false ≡ covers (get_or facts i d) goal → listed goal (drop (i + 1) facts) ≡ listed goal facts
   listed_more d l e = ap (λ (b : Bool). b || listed goal (drop (i + 1) facts)) e ∙ sym (step d l)
 
-  pub listed-none : length facts ≤ i → false ≡ listed goal facts
-  listed-none l = sym (at_drop_all (listed goal) facts i l) ∙ inv
+  pub listed_none : length facts ≤ i → false ≡ listed goal facts
+  listed_none l = sym (at_drop_all (listed goal) facts i l) ∙ inv
 
 le_test : (a b : ℤ) → a ≤ℤ b → le_z a b ≡ true
 le_test a b h = grind (arith, ints)
 
-yes-covers : (fact goal : Numbers) → Covers goal fact → covers fact goal ≡ true
-yes-covers fact goal c =
-    and_from (alike fact.coefficients goal.coefficients) (le_z fact.bound goal.bound) ((alike-decides _ _).1 c.same-coefficients) (le_test _ _ c.bound-at-most)
+yes_covers : (fact goal : Numbers) → Covers goal fact → covers fact goal ≡ true
+yes_covers fact goal c =
+    and_from (alike fact.coefficients goal.coefficients) (le_z fact.bound goal.bound) ((alike_decides _ _).1 c.same_coefficients) (le_test _ _ c.bound_at_most_lem)
 
-yes-listed : (goal : Numbers) (facts : List Numbers) (fact : Numbers) → Has facts fact → Covers goal fact → listed goal facts ≡ true
-yes-listed goal [] fact (k, l, h) c = absurd (omega arith)
-yes-listed goal (f ∷ fs) fact (ℕ.zero, l, h) c = or_left (covers f goal) (listed goal fs) (yes-covers f goal (subst (Covers goal) (sym (h fact)) c))
-yes-listed goal (f ∷ fs) fact (ℕ.suc k, l, h) c = or_right (covers f goal) (listed goal fs) (yes-listed goal fs fact (k, omega arith, h) c)
+yes_listed : (goal : Numbers) (facts : List Numbers) (fact : Numbers) → Has facts fact → Covers goal fact → listed goal facts ≡ true
+yes_listed goal [] fact (k, l, h) c = absurd (omega arith)
+yes_listed goal (f ∷ fs) fact (ℕ.zero, l, h) c = or_left (covers f goal) (listed goal fs) (yes_covers f goal (subst (Covers goal) (sym (h fact)) c))
+yes_listed goal (f ∷ fs) fact (ℕ.suc k, l, h) c = or_right (covers f goal) (listed goal fs) (yes_listed goal fs fact (k, omega arith, h) c)
 
-pub look-up-only : (q : Question) → look_up_says q ≡ Ok tt → LookUpYes q
-look-up-only q e =
-    let o = opened-yes (λ q. search_says q.facts q.goal q.certificate) q e in
-    let s = search-yes q.facts q.goal q.certificate o.1 in
-    record { begun = o.0; empty = s.0; stands = ∣ listed-yes q.goal q.facts s.1 ∣₁ }
+pub look_up_only : (q : Question) → look_up_says q ≡ Ok tt → LookUpYes q
+look_up_only q e =
+    let o = opened_yes (λ q. search_says q.facts q.goal q.certificate) q e in
+    let s = search_yes q.facts q.goal q.certificate o.1 in
+    record { begun = o.0; empty = s.0; stands = ∣ listed_yes q.goal q.facts s.1 ∣₁ }
 
-pub look-up-if : (q : Question) → LookUpYes q → look_up_says q ≡ Ok tt
+pub look_up_if : (q : Question) → LookUpYes q → look_up_says q ≡ Ok tt
 unfolding search_says
-look-up-if q y =
-    let l : listed q.goal q.facts ≡ true = ∥∥₁_elim y.stands (Bool-set _ _) (λ r. yes-listed q.goal q.facts r.0 r.1.0 r.1.1) in
-    yes-opened (λ q. search_says q.facts q.goal q.certificate) q y.begun
+look_up_if q y =
+    let l : listed q.goal q.facts ≡ true = ∥∥₁_elim y.stands (Bool-set _ _) (λ r. yes_listed q.goal q.facts r.0 r.1.0 r.1.1) in
+    yes_opened (λ q. search_says q.facts q.goal q.certificate) q y.begun
     (sym (goes _ _ _ (checked _ _ (eq-eqb _ _ y.empty)) (checked _ _ l)))

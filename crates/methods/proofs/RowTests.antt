@@ -19,20 +19,20 @@ unfolding first_beyond
 row_ok numbers w = ap (unless_found RowNumberTooLarge) (none_first (beyond (magnitude_of RowNumber) numbers) items (λ k l. ap not (w k l)))
 
 -- and else the first that is not is the fault
-pub row-err : (numbers : Numbers) (i : ℕ) → FirstOver (magnitude_of RowNumber) numbers i → row_says numbers ≡ Err (fault_of RowNumberTooLarge 0 0 i)
+pub row_err : (numbers : Numbers) (i : ℕ) → FirstOver (magnitude_of RowNumber) numbers i → row_says numbers ≡ Err (fault_of RowNumberTooLarge 0 0 i)
 unfolding first_beyond
-row-err numbers i h = ap (unless_found RowNumberTooLarge) (some_first (beyond (magnitude_of RowNumber) numbers) items i h.0 h.1 h.2)
+row_err numbers i h = ap (unless_found RowNumberTooLarge) (some_first (beyond (magnitude_of RowNumber) numbers) items i h.0 h.1 h.2)
 
-pub row-from-ok : (numbers : Numbers) (row : Row) → RowFrom numbers (Ok row) → Ok tt ≡ row_says numbers
-row-from-ok numbers row h = sym (row_ok numbers h.1)
+pub row_from_ok : (numbers : Numbers) (row : Row) → RowFrom numbers (Ok row) → Ok tt ≡ row_says numbers
+row_from_ok numbers row h = sym (row_ok numbers h.1)
 
-pub row-from-err : (numbers : Numbers) (f : Fault) → RowFrom numbers (Err f) → Err f ≡ row_says numbers
-row-from-err numbers f h = ap (λ (x : Fault). Err x) h.0 ∙ sym (row-err numbers f.item h.1)
+pub row_from_err : (numbers : Numbers) (f : Fault) → RowFrom numbers (Err f) → Err f ≡ row_says numbers
+row_from_err numbers f h = ap (λ (x : Fault). Err x) h.0 ∙ sym (row_err numbers f.item h.1)
 
 -- a loop over the facts: what is left says what the whole says
 module _ (facts : List Numbers) (i : ℕ) (inv : rows_say (drop i facts) ≡ rows_say facts) where
-  pub rows-fault : (d : Numbers) (f : Fault) → i < length facts → row_says (get_or facts i d) ≡ Err f → Err f ≡ rows_say facts
-  rows-fault d f l e =
+  pub rows_fault : (d : Numbers) (f : Fault) → i < length facts → row_says (get_or facts i d) ≡ Err f → Err f ≡ rows_say facts
+  rows_fault d f l e =
       let s : rows_say (drop i facts) ≡ (row_says (get_or facts i d) and_then rows_say (drop (i + 1) facts)) = at_drop_more rows_say facts i d l in
       let t : (row_says (get_or facts i d) and_then rows_say (drop (i + 1) facts)) ≡ Err f = ap (λ (x : Said). x and_then rows_say (drop (i + 1) facts)) e in
       sym (sym inv ∙ s ∙ t)

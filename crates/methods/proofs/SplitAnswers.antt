@@ -17,12 +17,12 @@ use Rattle.methods.specs.Openings.{most_facts}
 use Rattle.methods.specs.Questions.{question, Meaning}
 use Rattle.methods.specs.SplitsAsk.{half, in_turn}
 use Rattle.methods.specs.Splits.{number_from, first_from, first_length, second_from, first_part, second_part, split_row, unless_written, split_tests, split_own}
-use Rattle.methods.proofs.LayerAnswers.{room-count}
+use Rattle.methods.proofs.LayerAnswers.{room_count}
 
 module _ (certificate : List ℕ) where
-  pub row-short : length certificate < second_from certificate → Err (fault_of CertificateLength 0 0 0) ≡ split_tests certificate
+  pub row_short : length certificate < second_from certificate → Err (fault_of CertificateLength 0 0 0) ≡ split_tests certificate
   unfolding split_tests
-  row-short l = stops _ _ _ (failed _ _ (lt-leb _ _ l))
+  row_short l = stops _ _ _ (failed _ _ (lt-leb _ _ l))
 
   pub row_written : (numbers : Numbers) → second_from certificate ≤ length certificate → numbers ≡ split_row certificate → Within (magnitude_of WrittenNumber) numbers → Ok tt ≡ split_tests certificate
   unfolding split_tests first_beyond
@@ -30,39 +30,39 @@ module _ (certificate : List ℕ) where
       let v = subst (Within (magnitude_of WrittenNumber)) e w in
       goes _ _ _ (checked _ _ (le-leb _ _ l)) (sym (ap unless_written (none_first (beyond (magnitude_of WrittenNumber) (split_row certificate)) items (λ k h. ap not (v k h)))))
 
-  pub row-too-large : (numbers : Numbers) (item : ℕ) → second_from certificate ≤ length certificate → numbers ≡ split_row certificate → FirstOver (magnitude_of WrittenNumber) numbers item →
+  pub row_too_large : (numbers : Numbers) (item : ℕ) → second_from certificate ≤ length certificate → numbers ≡ split_row certificate → FirstOver (magnitude_of WrittenNumber) numbers item →
       Err (fault_of LayerRowTooLarge (number_from item) 0 item) ≡ split_tests certificate
   unfolding split_tests first_beyond
-  row-too-large numbers item l e h =
+  row_too_large numbers item l e h =
       let v = subst (λ (n : Numbers). FirstOver (magnitude_of WrittenNumber) n item) e h in
       goes _ _ _ (checked _ _ (le-leb _ _ l)) (sym (ap unless_written (some_first (beyond (magnitude_of WrittenNumber) (split_row certificate)) items item v.0 v.1 v.2)))
 
 module _ (below : Meaning) (count : ℕ) (sheet : List Numbers) (goal : Numbers) (certificate : List ℕ) (within : count ≤ length sheet) where
-  pub own-no-room : (f : Fault) → Err f ≡ check (ltb count most_facts && ltb count (length sheet)) (fault_of NoRoomForFact 0 0 0) → Err f ≡ split_own below (question (take count sheet) goal certificate (length sheet))
+  pub own_no_room : (f : Fault) → Err f ≡ check (ltb count most_facts && ltb count (length sheet)) (fault_of NoRoomForFact 0 0 0) → Err f ≡ split_own below (question (take count sheet) goal certificate (length sheet))
   unfolding split_own
-  own-no-room f e = stops _ _ f (e ∙ room-count count sheet goal certificate within)
+  own_no_room f e = stops _ _ f (e ∙ room_count count sheet goal certificate within)
 
   module _ (m : Ok tt ≡ check (ltb count most_facts && ltb count (length sheet)) (fault_of NoRoomForFact 0 0 0)) where
-    pub own-no-row : (f : Fault) → Err f ≡ split_tests certificate → Err f ≡ split_own below (question (take count sheet) goal certificate (length sheet))
+    pub own_no_row : (f : Fault) → Err f ≡ split_tests certificate → Err f ≡ split_own below (question (take count sheet) goal certificate (length sheet))
     unfolding split_own
-    own-no-row f e = goes _ _ _ (m ∙ room-count count sheet goal certificate within) (stops _ _ f e)
+    own_no_row f e = goes _ _ _ (m ∙ room_count count sheet goal certificate within) (stops _ _ f e)
 
     module _ (t : Ok tt ≡ split_tests certificate) (row : Numbers) (e : row ≡ split_row certificate) (second : ℕ) (s : second ≡ second_from certificate) where
       -- the halves, as the code asks them
-      first-half : half below first_from second row (question (take count sheet) goal certificate (length sheet)) ≡ moved first_from (below (adding (split_row certificate) (first_part certificate) (question (take count sheet) goal certificate (length sheet))))
-      first-half =
+      first_half : half below first_from second row (question (take count sheet) goal certificate (length sheet)) ≡ moved first_from (below (adding (split_row certificate) (first_part certificate) (question (take count sheet) goal certificate (length sheet))))
+      first_half =
           let n : second - first_from ≡ first_length certificate = omega (arith, s) in
           ap (λ (k : ℕ). moved first_from (below (question (take count sheet ++ row ∷ []) goal (take k (drop first_from certificate)) (length sheet)))) n
           ∙ ap (λ (x : Numbers). moved first_from (below (question (take count sheet ++ x ∷ []) goal (first_part certificate) (length sheet)))) e
 
-      second-half : half below second (length certificate) (opposite_of row) (question (take count sheet) goal certificate (length sheet)) ≡ moved (second_from certificate) (below (adding (opposite_of (split_row certificate)) (second_part certificate) (question (take count sheet) goal certificate (length sheet))))
-      second-half =
+      second_half : half below second (length certificate) (opposite_of row) (question (take count sheet) goal certificate (length sheet)) ≡ moved (second_from certificate) (below (adding (opposite_of (split_row certificate)) (second_part certificate) (question (take count sheet) goal certificate (length sheet))))
+      second_half =
           ap (λ (part : List ℕ). moved second (below (question (take count sheet ++ opposite_of row ∷ []) goal part (length sheet)))) (take_rest certificate second)
           ∙ ap (λ (x : Numbers). moved second (below (question (take count sheet ++ opposite_of x ∷ []) goal (drop second certificate) (length sheet)))) e
           ∙ ap (λ (i : ℕ). moved i (below (question (take count sheet ++ opposite_of (split_row certificate) ∷ []) goal (drop i certificate) (length sheet)))) s
 
-      pub own-both : (r : Said) → r ≡ in_turn (half below first_from second row (question (take count sheet) goal certificate (length sheet))) (half below second (length certificate) (opposite_of row) (question (take count sheet) goal certificate (length sheet))) → r ≡ split_own below (question (take count sheet) goal certificate (length sheet))
+      pub own_both : (r : Said) → r ≡ in_turn (half below first_from second row (question (take count sheet) goal certificate (length sheet))) (half below second (length certificate) (opposite_of row) (question (take count sheet) goal certificate (length sheet))) → r ≡ split_own below (question (take count sheet) goal certificate (length sheet))
       unfolding split_own
-      own-both r h =
-          goes _ _ _ (m ∙ room-count count sheet goal certificate within) (goes _ _ _ t
-          (h ∙ ap (λ (x : Said). in_turn x (half below second (length certificate) (opposite_of row) (question (take count sheet) goal certificate (length sheet)))) first-half ∙ ap (in_turn (moved first_from (below (adding (split_row certificate) (first_part certificate) (question (take count sheet) goal certificate (length sheet)))))) second-half))
+      own_both r h =
+          goes _ _ _ (m ∙ room_count count sheet goal certificate within) (goes _ _ _ t
+          (h ∙ ap (λ (x : Said). in_turn x (half below second (length certificate) (opposite_of row) (question (take count sheet) goal certificate (length sheet)))) first_half ∙ ap (in_turn (moved first_from (below (adding (split_row certificate) (first_part certificate) (question (take count sheet) goal certificate (length sheet)))))) second_half))

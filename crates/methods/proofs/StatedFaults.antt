@@ -17,81 +17,81 @@ use Rattle.methods.specs.Openings.{most_facts, row_says, rows_say, opening, open
 use Rattle.methods.specs.Questions.{Question, Meaning, asked}
 use Rattle.methods.specs.Sums.{weights_from, scaled, differs, sums_say, multipliers_say}
 use Rattle.methods.specs.Weights.{range_says, weights_say, weighted}
-use Rattle.methods.proofs.Asked.{asked-many, asked-within}
+use Rattle.methods.proofs.Asked.{asked_many, asked_within}
 
 -- every fault of an answer is stated
 AllStated : Said → Type 0
 AllStated said = (f : Fault) → said ≡ Err f → Stated f
 
-both-stated : (first rest : Said) → AllStated first → AllStated rest → AllStated (first and_then rest)
+both_stated : (first rest : Said) → AllStated first → AllStated rest → AllStated (first and_then rest)
 unfolding AllStated
-both-stated (Ok tt) rest a b f e = b f e
-both-stated (Err x) rest a b f e = a f e
+both_stated (Ok tt) rest a b f e = b f e
+both_stated (Err x) rest a b f e = a f e
 
-check-stated : (test : Bool) (x : Fault) → Stated x → AllStated (check test x)
+check_stated : (test : Bool) (x : Fault) → Stated x → AllStated (check test x)
 unfolding AllStated
-check-stated true x s f e = never f (sym e)
-check-stated false x s f e = let h : x ≡ f = cc in subst Stated h s
+check_stated true x s f e = never f (sym e)
+check_stated false x s f e = let h : x ≡ f = cc in subst Stated h s
 
-found-stated : (kind : FaultKind) (o : Option ℕ) → ((i : ℕ) → Stated (fault_of kind 0 0 i)) → AllStated (unless_found kind o)
+found_stated : (kind : FaultKind) (o : Option ℕ) → ((i : ℕ) → Stated (fault_of kind 0 0 i)) → AllStated (unless_found kind o)
 unfolding AllStated
-found-stated kind None s f e = never f (sym e)
-found-stated kind (Some i) s f e = let h : fault_of kind 0 0 i ≡ f = cc in subst Stated h (s i)
+found_stated kind None s f e = never f (sym e)
+found_stated kind (Some i) s f e = let h : fault_of kind 0 0 i ≡ f = cc in subst Stated h (s i)
 
-rows-stated : (rows : List Numbers) → AllStated (rows_say rows)
+rows_stated : (rows : List Numbers) → AllStated (rows_say rows)
 unfolding AllStated
-rows-stated [] f e = never f (sym e)
-rows-stated (row ∷ rows) f e = both-stated (row_says row) (rows_say rows) (found-stated RowNumberTooLarge _ (λ i. record { place = tt; depth = tt; item = tt })) (rows-stated rows) f e
+rows_stated [] f e = never f (sym e)
+rows_stated (row ∷ rows) f e = both_stated (row_says row) (rows_say rows) (found_stated RowNumberTooLarge _ (λ i. record { place = tt; depth = tt; item = tt })) (rows_stated rows) f e
 
-opened-stated : (rest : Meaning) (q : Question) → AllStated (rest q) → AllStated (opened rest q)
+opened_stated : (rest : Meaning) (q : Question) → AllStated (rest q) → AllStated (opened rest q)
 unfolding opened opening
-opened-stated rest q r =
-    both-stated _ _ (check-stated (leb (length q.facts) q.rows) (fault_of TooManyFacts 0 0 0) (record { place = tt; depth = tt; item = refl }))
-    (both-stated _ _
-    (both-stated _ _ (check-stated (leb (length q.facts) most_facts) (fault_of TooManyFacts 0 0 0) (record { place = tt; depth = tt; item = refl }))
-    (both-stated _ _ (rows-stated q.facts) (found-stated RowNumberTooLarge (first_beyond (magnitude_of RowNumber) q.goal) (λ i. record { place = tt; depth = tt; item = tt }))))
+opened_stated rest q r =
+    both_stated _ _ (check_stated (leb (length q.facts) q.rows) (fault_of TooManyFacts 0 0 0) (record { place = tt; depth = tt; item = refl }))
+    (both_stated _ _
+    (both_stated _ _ (check_stated (leb (length q.facts) most_facts) (fault_of TooManyFacts 0 0 0) (record { place = tt; depth = tt; item = refl }))
+    (both_stated _ _ (rows_stated q.facts) (found_stated RowNumberTooLarge (first_beyond (magnitude_of RowNumber) q.goal) (λ i. record { place = tt; depth = tt; item = tt }))))
     r)
 
-range-stated : (least : ℕ) (bytes : List ℕ) (at : ℕ) → AllStated (range_says least bytes at)
-range-stated least bytes at = check-stated _ (fault_of MultiplierRange at 0 0) (record { place = tt; depth = tt; item = refl })
+range_stated : (least : ℕ) (bytes : List ℕ) (at : ℕ) → AllStated (range_says least bytes at)
+range_stated least bytes at = check_stated _ (fault_of MultiplierRange at 0 0) (record { place = tt; depth = tt; item = refl })
 
-weights-stated : (bytes : List ℕ) (at : ℕ) (facts : List Numbers) → AllStated (weights_say bytes at facts)
+weights_stated : (bytes : List ℕ) (at : ℕ) (facts : List Numbers) → AllStated (weights_say bytes at facts)
 unfolding AllStated
-weights-stated bytes at [] f e = never f (sym e)
-weights-stated bytes at (x ∷ xs) f e = both-stated (range_says 0 bytes at) (weights_say bytes (at + 2) xs) (range-stated 0 bytes at) (weights-stated bytes (at + 2) xs) f e
+weights_stated bytes at [] f e = never f (sym e)
+weights_stated bytes at (x ∷ xs) f e = both_stated (range_says 0 bytes at) (weights_say bytes (at + 2) xs) (range_stated 0 bytes at) (weights_stated bytes (at + 2) xs) f e
 
-multipliers-stated : (q : Question) → AllStated (multipliers_say q)
+multipliers_stated : (q : Question) → AllStated (multipliers_say q)
 unfolding sums_say
-multipliers-stated q =
-    opened-stated (λ q. sums_say q.facts q.goal q.certificate) q
-    (both-stated _ _ (check-stated (eqb (length q.certificate) (weights_from + 2 * length q.facts)) (fault_of CertificateLength 0 0 0) (record { place = tt; depth = tt; item = refl }))
-    (both-stated _ _ (range-stated 1 q.certificate 0)
-    (both-stated _ _ (weights-stated q.certificate weights_from q.facts)
-    (both-stated _ _ (found-stated ColumnDiffers (first_below (differs q.facts q.goal q.certificate) columns) (λ i. record { place = tt; depth = tt; item = tt }))
-    (check-stated (le_z (weighted columns q.certificate weights_from q.facts) (scaled q.goal q.certificate columns)) (fault_of BoundNotShown 0 0 columns) (record { place = tt; depth = tt; item = tt }))))))
+multipliers_stated q =
+    opened_stated (λ q. sums_say q.facts q.goal q.certificate) q
+    (both_stated _ _ (check_stated (eqb (length q.certificate) (weights_from + 2 * length q.facts)) (fault_of CertificateLength 0 0 0) (record { place = tt; depth = tt; item = refl }))
+    (both_stated _ _ (range_stated 1 q.certificate 0)
+    (both_stated _ _ (weights_stated q.certificate weights_from q.facts)
+    (both_stated _ _ (found_stated ColumnDiffers (first_below (differs q.facts q.goal q.certificate) columns) (λ i. record { place = tt; depth = tt; item = tt }))
+    (check_stated (le_z (weighted columns q.certificate weights_from q.facts) (scaled q.goal q.certificate columns)) (fault_of BoundNotShown 0 0 columns) (record { place = tt; depth = tt; item = tt }))))))
 
-look-up-stated : (q : Question) → AllStated (look_up_says q)
+look_up_stated : (q : Question) → AllStated (look_up_says q)
 unfolding search_says
-look-up-stated q =
-    opened-stated (λ q. search_says q.facts q.goal q.certificate) q
-    (both-stated _ _ (check-stated (eqb (length q.certificate) 0) (fault_of CertificateLength 0 0 0) (record { place = tt; depth = tt; item = refl }))
-    (check-stated (listed q.goal q.facts) (fault_of BoundNotShown 0 0 columns) (record { place = tt; depth = tt; item = tt })))
+look_up_stated q =
+    opened_stated (λ q. search_says q.facts q.goal q.certificate) q
+    (both_stated _ _ (check_stated (eqb (length q.certificate) 0) (fault_of CertificateLength 0 0 0) (record { place = tt; depth = tt; item = refl }))
+    (check_stated (listed q.goal q.facts) (fault_of BoundNotShown 0 0 columns) (record { place = tt; depth = tt; item = tt })))
 
 -- the same of a question with a sheet and a count
-asked-stated : (meaning : Meaning) → ((q : Question) → AllStated (meaning q)) → (count : ℕ) (sheet : List Numbers) (goal : Numbers) (certificate : List ℕ) (said : Said) →
+asked_stated : (meaning : Meaning) → ((q : Question) → AllStated (meaning q)) → (count : ℕ) (sheet : List Numbers) (goal : Numbers) (certificate : List ℕ) (said : Said) →
     said ≡ asked meaning count sheet goal certificate → (f : Fault) → said ≡ Err f → Stated f
 unfolding AllStated
-asked-stated meaning s count sheet goal certificate said e f x =
+asked_stated meaning s count sheet goal certificate said e f x =
     elim (cases_lt (length sheet) count) [
-      | inl l ↦ let h : fault_of TooManyFacts 0 0 0 ≡ f = same (asked-many count sheet goal certificate meaning l ∙ sym e ∙ x) in subst Stated h (record { place = tt; depth = tt; item = refl })
-      | inr l ↦ s _ f (sym (asked-within count sheet goal certificate meaning l) ∙ sym e ∙ x)
+      | inl l ↦ let h : fault_of TooManyFacts 0 0 0 ≡ f = same (asked_many count sheet goal certificate meaning l ∙ sym e ∙ x) in subst Stated h (record { place = tt; depth = tt; item = refl })
+      | inr l ↦ s _ f (sym (asked_within count sheet goal certificate meaning l) ∙ sym e ∙ x)
     ]
   where
     same : {a b : Fault} → ◌≡◌ {A = Said} (Err a) (Err b) → a ≡ b
     same h = cc
 
-pub multipliers-faults : (count : ℕ) (sheet : List Numbers) (goal : Numbers) (certificate : List ℕ) (said : Said) → said ≡ asked multipliers_say count sheet goal certificate → (f : Fault) → said ≡ Err f → Stated f
-multipliers-faults = asked-stated multipliers_say multipliers-stated
+pub multipliers_faults : (count : ℕ) (sheet : List Numbers) (goal : Numbers) (certificate : List ℕ) (said : Said) → said ≡ asked multipliers_say count sheet goal certificate → (f : Fault) → said ≡ Err f → Stated f
+multipliers_faults = asked_stated multipliers_say multipliers_stated
 
-pub look-up-faults : (count : ℕ) (sheet : List Numbers) (goal : Numbers) (certificate : List ℕ) (said : Said) → said ≡ asked look_up_says count sheet goal certificate → (f : Fault) → said ≡ Err f → Stated f
-look-up-faults = asked-stated look_up_says look-up-stated
+pub look_up_faults : (count : ℕ) (sheet : List Numbers) (goal : Numbers) (certificate : List ℕ) (said : Said) → said ≡ asked look_up_says count sheet goal certificate → (f : Fault) → said ≡ Err f → Stated f
+look_up_faults = asked_stated look_up_says look_up_stated

@@ -7,7 +7,7 @@ use Rattle.rows.specs.declared.limits.Limit.TheVariants.{RowNumber}
 use Rattle.rows.specs.declared.numbers.Numbers.{Numbers}
 use Rattle.rows.specs.Limits.{items, magnitude_of}
 use Rattle.rows.specs.Shapes.{item_of, Within}
-use Rattle.rows.proofs.Bounds.{Bounded, bounded, product-bounded, sum-bounded, bounded-fits, Accumulated, turn}
+use Rattle.rows.proofs.Bounds.{Bounded, bounded, product_bounded, sum_bounded, bounded_fits, Accumulated, turn}
 use Rattle.methods.specs.Openings.{most_facts}
 use Rattle.methods.specs.Weighing.{Weighable}
 use Rattle.rows.specs.Bytes.{word_at}
@@ -17,8 +17,8 @@ use Rattle.methods.specs.Weights.{most_weight, weighted}
 abbrev pub most_product : ℕ
 most_product = most_weight * magnitude_of RowNumber
 
-pub weight-bounded : (m : ℕ) → m ≤ most_weight → Bounded most_weight (pos m)
-weight-bounded m l = record { low = omega (arith, ints); high = omega (arith, ints) }
+pub weight_bounded : (m : ℕ) → m ≤ most_weight → Bounded most_weight (pos m)
+weight_bounded m l = record { low = omega (arith, ints); high = omega (arith, ints) }
 
 -- after i facts the sum is theirs
 pub record Turn (item : ℕ) (bytes : List ℕ) (at : ℕ) (facts : List Numbers) (i : ℕ) (sum : ℤ) : Type 0 where
@@ -26,16 +26,16 @@ pub record Turn (item : ℕ) (bytes : List ℕ) (at : ℕ) (facts : List Numbers
   pub small : Bounded (i * most_product) sum
 
 -- the sum with one more fact behind the others
-weighted-behind : (item : ℕ) (bytes : List ℕ) (at : ℕ) (facts : List Numbers) (fact : Numbers) →
+weighted_behind : (item : ℕ) (bytes : List ℕ) (at : ℕ) (facts : List Numbers) (fact : Numbers) →
     weighted item bytes at (facts ++ fact ∷ []) ≡ weighted item bytes at facts +ℤ pos (word_at bytes (at + 2 * length facts)) *ℤ item_of fact item
-weighted-behind item bytes at [] fact =
+weighted_behind item bytes at [] fact =
     let n : at + 2 * 0 ≡ at = omega arith in
     let e = ap (λ (k : ℕ). pos (word_at bytes k) *ℤ item_of fact item) n in
     omega (arith, ints, e)
-weighted-behind item bytes at (f ∷ fs) fact =
+weighted_behind item bytes at (f ∷ fs) fact =
     let n : at + 2 + 2 * length fs ≡ at + 2 * length (f ∷ fs) = omega arith in
     let e = ap (λ (k : ℕ). pos (word_at bytes k) *ℤ item_of fact item) n in
-    let h = weighted-behind item bytes (at + 2) fs fact in
+    let h = weighted_behind item bytes (at + 2) fs fact in
     omega (arith, ints, e, h)
 
 -- one turn: what the code computes, and the turn after it
@@ -47,14 +47,14 @@ module _ (item : ℕ) (bytes : List ℕ) (at : ℕ) (facts : List Numbers) (i : 
   -- the product of a turn is small
   product_small : Weighable bytes at facts → item < items → i < length facts → Bounded most_product (pos (word_at bytes (at + 2 * i)) *ℤ item_of (get_or facts i d) item)
   product_small w k l =
-      product-bounded most_weight (magnitude_of RowNumber) _ _ (weight-bounded _ (w.in-range i l))
-      (bounded (magnitude_of RowNumber) _ (All-get_or (Within (magnitude_of RowNumber)) facts i d l w.are-rows item k))
+      product_bounded most_weight (magnitude_of RowNumber) _ _ (weight_bounded _ (w.in_range_lem i l))
+      (bounded (magnitude_of RowNumber) _ (All-get_or (Within (magnitude_of RowNumber)) facts i d l w.are_rows item k))
 
   so_far_more : (sum : ℤ) → i < length facts → sum ≡ weighted item bytes at (take i facts) →
       sum +ℤ pos (word_at bytes (at + 2 * i)) *ℤ item_of (get_or facts i d) item ≡ weighted item bytes at (take (i + 1) facts)
   so_far_more sum l e =
       let n : length (take i facts) ≡ i = length-take-le i facts (omega arith) in
-      let s = ap (weighted item bytes at) (take_more facts i d l) ∙ weighted-behind item bytes at (take i facts) (get_or facts i d)
+      let s = ap (weighted item bytes at) (take_more facts i d l) ∙ weighted_behind item bytes at (take i facts) (get_or facts i d)
       ∙ ap (λ (k : ℕ). weighted item bytes at (take i facts) +ℤ pos (word_at bytes (at + 2 * k)) *ℤ item_of (get_or facts i d) item) n in
       ap (λ (z : ℤ). z +ℤ pos (word_at bytes (at + 2 * i)) *ℤ item_of (get_or facts i d) item) e ∙ sym s
 
@@ -69,7 +69,7 @@ module _ (item : ℕ) (bytes : List ℕ) (at : ℕ) (facts : List Numbers) (i : 
         step = a;
         again = record {
           so_far = a.is ∙ e ∙ so_far_more (to_z w64 bits) l t.so_far;
-          small = subst (Bounded ((i + 1) * most_product)) (sym a.is) (sum-bounded i most_product _ _ t.small p);
+          small = subst (Bounded ((i + 1) * most_product)) (sym a.is) (sum_bounded i most_product _ _ t.small p);
         };
       }
 
@@ -83,7 +83,7 @@ pub record Multiplied (m x a b : ℤ) : Type 0 where
 
 pub multiplied : (m x : ℤ) (n : ℕ) (b : ℤ) → n ≤ most_weight → Bounded (magnitude_of RowNumber) b → SFits w64 m → SFits w64 x → m ≡ pos n → x ≡ b → Multiplied m x (pos n) b
 multiplied m x n b l h fm fx em ex =
-    let p = product-bounded most_weight (magnitude_of RowNumber) (pos n) b (weight-bounded n l) h in
-    let f = bounded-fits most_product (pos n *ℤ b) (lit< tt) p in
+    let p = product_bounded most_weight (magnitude_of RowNumber) (pos n) b (weight_bounded n l) h in
+    let f = bounded_fits most_product (pos n *ℤ b) (lit< tt) p in
     let e : to_z w64 (of_z w64 m) *ℤ to_z w64 (of_z w64 x) ≡ pos n *ℤ b = rw (to_z-of_z w64 m fm, to_z-of_z w64 x fx, em, ex) in
     record { fits = subst (SFits w64) (sym e) f; is = ap (λ (z : ℤ). to_z w64 (of_z w64 z)) e ∙ to_z-of_z w64 _ f }

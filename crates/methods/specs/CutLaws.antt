@@ -14,29 +14,29 @@ use Rattle.rows.specs.declared.numbers.Numbers.{Numbers}
 use Rattle.rows.specs.Faults.{Said, fault_of, ◌and_then◌, check, unless_found, moved}
 use Rattle.rows.specs.Limits.{columns, items, magnitude_of}
 use Rattle.rows.specs.Shapes.{Within, beyond, first_beyond, dot_to, dot, Meets, MeetsAll}
-use Rattle.rows.proofs.Chains.{both, check-true, found_none, either, check-first, check-place, found-place}
+use Rattle.rows.proofs.Chains.{both, check_true, found_none, either, check_first, check_place, found_place}
 use Rattle.rows.proofs.Equalities.{int_eq_test-decides}
-use Rattle.rows.proofs.First.{first-none}
-use Rattle.rows.proofs.Ring.{times-le}
+use Rattle.rows.proofs.First.{first_none}
+use Rattle.rows.proofs.Ring.{times_le}
 use Rattle.methods.specs.Cuts.{floor_div, tabulate, divisor_from, cut_weights_from, cut_end, divisor, divided, indivisible, divides_say, cut_row, cut_tests, cut_own, cut_says, IsCut}
-use Rattle.methods.specs.LayerLaws.{moved-yes, lower-place, OwnLaws, layer-lawful}
+use Rattle.methods.specs.LayerLaws.{moved_yes, lower_place, OwnLaws, layer_lawful}
 use Rattle.methods.specs.Layers.{adding, room_says}
 use Rattle.methods.specs.Questions.{Question, Meaning, Lawful}
-use Rattle.methods.specs.SumsLaws.{range-place, weights-place, range-least}
-use Rattle.methods.specs.WeightedLaws.{sum-met, sum-scaled}
+use Rattle.methods.specs.SumsLaws.{range_place, weights_place, range_least}
+use Rattle.methods.specs.WeightedLaws.{sum_met, sum_scaled}
 use Rattle.methods.specs.Weights.{range_says, weights_say, weighted}
 
 -- the quotient rounded down
-pub floor-below : (z : ℤ) (d : ℕ) → 0 < d → (pos d *ℤ floor_div z d) ≤ℤ z
-floor-below (pos n) d l = let h = mul-div-le n d in omega (arith, ints, h)
-floor-below (negsuc n) d l =
+pub floor_below : (z : ℤ) (d : ℕ) → 0 < d → (pos d *ℤ floor_div z d) ≤ℤ z
+floor_below (pos n) d l = let h = mul-div-le n d in omega (arith, ints, h)
+floor_below (negsuc n) d l =
     let h = lt-mul-div-succ n l in
     let m : d * suc (n / d) ≡ d * (n / d + 1) = ap (λ (k : ℕ). d * k) (omega arith) in
     omega (arith, ints, h, m)
 
-pub floor-above : (z : ℤ) (d : ℕ) → 0 < d → z <ℤ (pos d *ℤ (floor_div z d +ℤ pos 1))
-floor-above (pos n) d l = let h = lt-mul-div-succ n l in omega (arith, ints, h)
-floor-above (negsuc n) d l = above (n / d) (mul-div-le n d)
+pub floor_above : (z : ℤ) (d : ℕ) → 0 < d → z <ℤ (pos d *ℤ (floor_div z d +ℤ pos 1))
+floor_above (pos n) d l = let h = lt-mul-div-succ n l in omega (arith, ints, h)
+floor_above (negsuc n) d l = above (n / d) (mul-div-le n d)
   where
     above : (q : ℕ) → d * q ≤ n → negsuc n <ℤ (pos d *ℤ (negsuc q +ℤ pos 1))
     above zero h = omega (arith, ints)
@@ -45,14 +45,14 @@ floor-above (negsuc n) d l = above (n / d) (mul-div-le n d)
         subst (λ (z : ℤ). negsuc n <ℤ (pos d *ℤ z)) (sym e) (omega (arith, ints, h))
 
 -- the elements of a tabulated list
-pub tabulate-length : {X : Type 0} (f : ℕ → X) (n : ℕ) → length (tabulate f n) ≡ n
-tabulate-length f zero = refl
-tabulate-length f (suc n) = length_push (tabulate f n) (f n) ∙ (let h = tabulate-length f n in omega arith)
+pub tabulate_length : {X : Type 0} (f : ℕ → X) (n : ℕ) → length (tabulate f n) ≡ n
+tabulate_length f zero = refl
+tabulate_length f (suc n) = length_push (tabulate f n) (f n) ∙ (let h = tabulate_length f n in omega arith)
 
 pub tabulate-get_or : {X : Type 0} (f : ℕ → X) (n k : ℕ) (d : X) → k < n → slice_index_or (tabulate f n) k d ≡ f k
 tabulate-get_or f zero k d l = absurd (omega arith)
 tabulate-get_or f (suc n) k d l =
-    let h = tabulate-length f n in
+    let h = tabulate_length f n in
     elim (cases_eq k n) [
       | inl s ↦ get_or_push (tabulate f n) (f n) d k (h ∙ sym s) ∙ ap f (sym s)
       | inr s ↦ get_or_append_left (tabulate f n) (f n ∷ []) d k (omega arith) ∙ tabulate-get_or f n k d (omega arith)
@@ -66,87 +66,87 @@ pub record CutPassed (facts : List Numbers) (certificate : List ℕ) : Type 0 wh
   pub is_cut : IsCut facts certificate (cut_row facts certificate)
   pub is_row : Within (magnitude_of RowNumber) (cut_row facts certificate)
 
-pub row-is-cut : (facts : List Numbers) (certificate : List ℕ) → 0 < divisor certificate →
+pub row_is_cut : (facts : List Numbers) (certificate : List ℕ) → 0 < divisor certificate →
     ((k : ℕ) → k < columns → pos (divisor certificate) *ℤ divided facts certificate k ≡ weighted k certificate cut_weights_from facts) → IsCut facts certificate (cut_row facts certificate)
-row-is-cut facts certificate l h =
+row_is_cut facts certificate l h =
     record {
-      as_long = tabulate-length (divided facts certificate) columns;
-      columns-divided = λ k m. sym (h k m) ∙ ap (λ (z : ℤ). pos (divisor certificate) *ℤ z) (sym (tabulate-get_or (divided facts certificate) columns k (pos 0) m));
-      bound-below = floor-below _ _ l;
-      bound-above = floor-above _ _ l;
+      as_long = tabulate_length (divided facts certificate) columns;
+      columns_divided = λ k m. sym (h k m) ∙ ap (λ (z : ℤ). pos (divisor certificate) *ℤ z) (sym (tabulate-get_or (divided facts certificate) columns k (pos 0) m));
+      bound_below = floor_below _ _ l;
+      bound_above = floor_above _ _ l;
     }
 
-pub cut-passed : (facts : List Numbers) (certificate : List ℕ) → cut_tests facts certificate ≡ Ok tt → CutPassed facts certificate
+pub cut_passed : (facts : List Numbers) (certificate : List ℕ) → cut_tests facts certificate ≡ Ok tt → CutPassed facts certificate
 unfolding cut_tests first_beyond
-cut-passed facts certificate e =
+cut_passed facts certificate e =
     let a = both (check (nat_le (cut_end facts) (length certificate)) (fault_of CertificateLength 0 0 0)) (range_says 1 certificate divisor_from and_then weights_say certificate cut_weights_from facts and_then divides_say facts certificate and_then unless_found LayerRowTooLarge (first_beyond (magnitude_of RowNumber) (cut_row facts certificate))) e in
     let b = both (range_says 1 certificate divisor_from) (weights_say certificate cut_weights_from facts and_then divides_say facts certificate and_then unless_found LayerRowTooLarge (first_beyond (magnitude_of RowNumber) (cut_row facts certificate))) a.1 in
     let c = both (weights_say certificate cut_weights_from facts) (divides_say facts certificate and_then unless_found LayerRowTooLarge (first_beyond (magnitude_of RowNumber) (cut_row facts certificate))) b.1 in
     let d = both (divides_say facts certificate) (unless_found LayerRowTooLarge (first_beyond (magnitude_of RowNumber) (cut_row facts certificate))) c.1 in
     record {
-      long = leb-true _ _ (check-true _ _ a.0);
+      long = leb-true _ _ (check_true _ _ a.0);
       divisor_range = b.0;
       weights = c.0;
-      is_cut = row-is-cut facts certificate (range-least certificate divisor_from b.0)
-          (λ k l. (int_eq_test-decides _ _).0 (not-false _ (first-none (indivisible facts certificate) columns (found_none ColumnDiffers _ d.0) k l)));
-      is_row = λ k l. not-false _ (first-none (beyond (magnitude_of RowNumber) (cut_row facts certificate)) items (found_none LayerRowTooLarge _ d.1) k l);
+      is_cut = row_is_cut facts certificate (range_least certificate divisor_from b.0)
+          (λ k l. (int_eq_test-decides _ _).0 (not-false _ (first_none (indivisible facts certificate) columns (found_none ColumnDiffers _ d.0) k l)));
+      is_row = λ k l. not-false _ (first_none (beyond (magnitude_of RowNumber) (cut_row facts certificate)) items (found_none LayerRowTooLarge _ d.1) k l);
     }
 
 -- a point that meets all facts meets the row
 pub rounded : (d : ℕ) (s b w : ℤ) → (pos d *ℤ s) ≤ℤ w → w <ℤ (pos d *ℤ (b +ℤ pos 1)) → s ≤ℤ b
 rounded d s b w h k =
     by_lt_z s (b +ℤ pos 1) (λ l. omega (arith, ints))
-    (λ l. let t = times-le d (b +ℤ pos 1) s l in absurd (omega (arith, ints, t)))
+    (λ l. let t = times_le d (b +ℤ pos 1) s l in absurd (omega (arith, ints, t)))
 
-pub cut-met : (facts : List Numbers) (certificate : List ℕ) (row : Numbers) → IsCut facts certificate row → (point : List ℤ) → MeetsAll point facts → Meets point row
+pub cut_met : (facts : List Numbers) (certificate : List ℕ) (row : Numbers) → IsCut facts certificate row → (point : List ℤ) → MeetsAll point facts → Meets point row
 unfolding dot
-cut-met facts certificate row c point m =
-    let s = sum-scaled columns (divisor certificate) certificate cut_weights_from facts row.coefficients point c.columns-divided in
-    let d = sum-met columns (omega arith) certificate cut_weights_from facts point m in
+cut_met facts certificate row c point m =
+    let s = sum_scaled columns (divisor certificate) certificate cut_weights_from facts row.coefficients point c.columns_divided in
+    let d = sum_met columns (omega arith) certificate cut_weights_from facts point m in
     rounded (divisor certificate) (dot_to columns row.coefficients point) row.bound _
-    (subst (λ (z : ℤ). z ≤ℤ weighted columns certificate cut_weights_from facts) s d) c.bound-above
+    (subst (λ (z : ℤ). z ≤ℤ weighted columns certificate cut_weights_from facts) s d) c.bound_above
 
-tests-placed : (facts : List Numbers) (certificate : List ℕ) (f : Fault) → cut_tests facts certificate ≡ Err f → f.place ≤ length certificate
+tests_placed : (facts : List Numbers) (certificate : List ℕ) (f : Fault) → cut_tests facts certificate ≡ Err f → f.place ≤ length certificate
 unfolding cut_tests
-tests-placed facts certificate f e =
-    check-first (nat_le (cut_end facts) (length certificate)) CertificateLength 0 (range_says 1 certificate divisor_from and_then weights_say certificate cut_weights_from facts and_then divides_say facts certificate and_then unless_found LayerRowTooLarge (first_beyond (magnitude_of RowNumber) (cut_row facts certificate))) f e
+tests_placed facts certificate f e =
+    check_first (nat_le (cut_end facts) (length certificate)) CertificateLength 0 (range_says 1 certificate divisor_from and_then weights_say certificate cut_weights_from facts and_then divides_say facts certificate and_then unless_found LayerRowTooLarge (first_beyond (magnitude_of RowNumber) (cut_row facts certificate))) f e
     (λ z. omega arith)
     (λ t h. let w = leb-true (cut_end facts) (length certificate) t in
     either (range_says 1 certificate divisor_from) (weights_say certificate cut_weights_from facts and_then divides_say facts certificate and_then unless_found LayerRowTooLarge (first_beyond (magnitude_of RowNumber) (cut_row facts certificate))) f h
-    (λ a. let p = range-place 1 certificate divisor_from f a in omega arith)
+    (λ a. let p = range_place 1 certificate divisor_from f a in omega arith)
     (λ a. either (weights_say certificate cut_weights_from facts) (divides_say facts certificate and_then unless_found LayerRowTooLarge (first_beyond (magnitude_of RowNumber) (cut_row facts certificate))) f a
-    (λ b. let p = weights-place certificate cut_weights_from facts f b in omega arith)
+    (λ b. let p = weights_place certificate cut_weights_from facts f b in omega arith)
     (λ b. either (divides_say facts certificate) (unless_found LayerRowTooLarge (first_beyond (magnitude_of RowNumber) (cut_row facts certificate))) f b
-    (λ c. let p = found-place ColumnDiffers _ f c in omega arith)
-    (λ c. let p = found-place LayerRowTooLarge _ f c in omega arith))))
+    (λ c. let p = found_place ColumnDiffers _ f c in omega arith)
+    (λ c. let p = found_place LayerRowTooLarge _ f c in omega arith))))
 
 -- the parts of a yes of the own part
-pub cut-own-yes : (below : Meaning) (q : Question) → cut_own below q ≡ Ok tt →
+pub cut_own_yes : (below : Meaning) (q : Question) → cut_own below q ≡ Ok tt →
     (room_says q ≡ Ok tt) × (cut_tests q.facts q.certificate ≡ Ok tt) × (below (adding (cut_row q.facts q.certificate) (drop (cut_end q.facts) q.certificate) q) ≡ Ok tt)
 unfolding cut_own
-cut-own-yes below q e =
+cut_own_yes below q e =
     let a = both (room_says q) (cut_tests q.facts q.certificate and_then moved (cut_end q.facts) (below (adding (cut_row q.facts q.certificate) (drop (cut_end q.facts) q.certificate) q))) e in
     let b = both (cut_tests q.facts q.certificate) (moved (cut_end q.facts) (below (adding (cut_row q.facts q.certificate) (drop (cut_end q.facts) q.certificate) q))) a.1 in
-    (a.0, b.0, moved-yes _ _ b.1)
+    (a.0, b.0, moved_yes _ _ b.1)
 
 cut_own_laws : (below : Meaning) → Lawful below → OwnLaws (cut_own below)
 unfolding cut_own
 cut_own_laws below l =
     record {
       sound = λ q b e point m.
-          let y = cut-own-yes below q e in
-          let p = cut-passed q.facts q.certificate y.1 in
+          let y = cut_own_yes below q e in
+          let p = cut_passed q.facts q.certificate y.1 in
           l.sound (adding (cut_row q.facts q.certificate) (drop (cut_end q.facts) q.certificate) q) y.2 point
-          (All-push (Meets point) q.facts (cut_row q.facts q.certificate) m (cut-met q.facts q.certificate _ p.is_cut point m));
+          (All-push (Meets point) q.facts (cut_row q.facts q.certificate) m (cut_met q.facts q.certificate _ p.is_cut point m));
       placed = λ q f s e.
           either (room_says q) (cut_tests q.facts q.certificate and_then moved (cut_end q.facts) (below (adding (cut_row q.facts q.certificate) (drop (cut_end q.facts) q.certificate) q))) f e
-          (λ r. let p = check-place _ NoRoomForFact 0 f r in omega arith)
-          (λ r. passed-or q f (cut_tests q.facts q.certificate) refl r);
+          (λ r. let p = check_place _ NoRoomForFact 0 f r in omega arith)
+          (λ r. passed_or q f (cut_tests q.facts q.certificate) refl r);
     }
   where
-    passed-or : (q : Question) (f : Fault) (t : Said) → cut_tests q.facts q.certificate ≡ t → (t and_then moved (cut_end q.facts) (below (adding (cut_row q.facts q.certificate) (drop (cut_end q.facts) q.certificate) q))) ≡ Err f → f.place ≤ length q.certificate
-    passed-or q f (Ok tt) t h = lower-place below l q _ (cut_end q.facts) f (cut-passed q.facts q.certificate t).long h
-    passed-or q f (Err g) t h = tests-placed q.facts q.certificate f (t ∙ h)
+    passed_or : (q : Question) (f : Fault) (t : Said) → cut_tests q.facts q.certificate ≡ t → (t and_then moved (cut_end q.facts) (below (adding (cut_row q.facts q.certificate) (drop (cut_end q.facts) q.certificate) q))) ≡ Err f → f.place ≤ length q.certificate
+    passed_or q f (Ok tt) t h = lower_place below l q _ (cut_end q.facts) f (cut_passed q.facts q.certificate t).long h
+    passed_or q f (Err g) t h = tests_placed q.facts q.certificate f (t ∙ h)
 
 pub cut_lawful : (below : Meaning) → Lawful below → Lawful (cut_says below)
-cut_lawful below l = layer-lawful cut_own below l (cut_own_laws below l)
+cut_lawful below l = layer_lawful cut_own below l (cut_own_laws below l)

@@ -79,26 +79,26 @@ cut_says = layered cut_own
 -- is the whole number with divisor × bound ≤ sum < divisor × (bound + 1)
 pub record IsCut (facts : List Numbers) (certificate : List ℕ) (row : Numbers) : Type 0 where
   pub as_long : length row.coefficients ≡ columns
-  pub columns-divided : (k : ℕ) → k < columns → weighted k certificate cut_weights_from facts ≡ pos (divisor certificate) *ℤ slice_index_or row.coefficients k (pos 0)
-  pub bound-below : (pos (divisor certificate) *ℤ row.bound) ≤ℤ weighted columns certificate cut_weights_from facts
-  pub bound-above : weighted columns certificate cut_weights_from facts <ℤ (pos (divisor certificate) *ℤ (row.bound +ℤ pos 1))
+  pub columns_divided : (k : ℕ) → k < columns → weighted k certificate cut_weights_from facts ≡ pos (divisor certificate) *ℤ slice_index_or row.coefficients k (pos 0)
+  pub bound_below : (pos (divisor certificate) *ℤ row.bound) ≤ℤ weighted columns certificate cut_weights_from facts
+  pub bound_above : weighted columns certificate cut_weights_from facts <ℤ (pos (divisor certificate) *ℤ (row.bound +ℤ pos 1))
 
 -- when its own part says yes: every condition
 pub record CutOwnYes (below : Meaning) (q : Question) (row : Numbers) : Type 0 where
   pub first_byte : (0 < length q.certificate) × (slice_index q.certificate 0 ≡ 1)
   pub room : (length q.facts < most_facts) × (length q.facts < q.rows)
   pub long : cut_end q.facts ≤ length q.certificate
-  pub divisor-least : 1 ≤ divisor q.certificate
-  pub divisor-most : divisor q.certificate ≤ most_weight
+  pub divisor_least : 1 ≤ divisor q.certificate
+  pub divisor_most : divisor q.certificate ≤ most_weight
   pub weights : (i : ℕ) → i < length q.facts → word_at q.certificate (cut_weights_from + 2 * i) ≤ most_weight
   pub is_cut : IsCut q.facts q.certificate row
   pub is_row : Within (magnitude_of RowNumber) row
-  pub below-yes : below (adding row (drop (cut_end q.facts) q.certificate) q) ≡ Ok tt
+  pub below_yes : below (adding row (drop (cut_end q.facts) q.certificate) q) ≡ Ok tt
 
 -- when a layer hands the rest down and the method below says yes
 pub record HandedYes (below : Meaning) (q : Question) : Type 0 where
   pub first_byte : (0 < length q.certificate) × (slice_index q.certificate 0 ≡ 0)
-  pub below-yes : below (from 1 q) ≡ Ok tt
+  pub below_yes : below (from 1 q) ≡ Ok tt
 
 -- when the cut says yes
 pub record CutYes (below : Meaning) (q : Question) : Type 0 where

@@ -14,13 +14,13 @@ use Rattle.methods.specs.Weights.{most_weight}
 -- few facts, all of them rows
 pub record Rows (facts : List Numbers) : Type 0 where
   pub few : length facts ≤ most_facts
-  pub are-rows : AllByRecursion (Within (magnitude_of RowNumber)) facts
+  pub are_rows : AllByRecursion (Within (magnitude_of RowNumber)) facts
 
 -- the facts can be weighed and the divisor is in range
 pub record Divisible (certificate : List ℕ) (facts : List Numbers) : Type 0 where
   pub weighable : Weighable certificate cut_weights_from facts
-  pub divisor-least : 1 ≤ divisor certificate
-  pub divisor-most : divisor certificate ≤ most_weight
+  pub divisor_least : 1 ≤ divisor certificate
+  pub divisor_most : divisor certificate ≤ most_weight
 
 -- the row, where all tests are passed, else the first fault
 abbrev pub CutMade : List Numbers → List ℕ → Result Numbers Fault → Type 0

@@ -29,8 +29,8 @@ look_up_says = opened (λ q. search_says q.facts q.goal q.certificate)
 
 -- a fact that shows the goal
 pub record Covers (goal fact : Numbers) : Type 0 where
-  pub same-coefficients : fact.coefficients ≡ goal.coefficients
-  pub bound-at-most : fact.bound ≤ℤ goal.bound
+  pub same_coefficients : fact.coefficients ≡ goal.coefficients
+  pub bound_at_most_lem : fact.bound ≤ℤ goal.bound
 
 -- when it says yes: every condition
 pub record LookUpYes (q : Question) : Type 0 where

@@ -13,33 +13,33 @@ use Rattle.rows.specs.Faults.{fault_of, check}
 use Rattle.rows.specs.Limits.{columns}
 use Rattle.rows.specs.Shapes.{dot, Meets, MeetsAll}
 use Rattle.rows.specs.Wholes.{alike}
-use Rattle.rows.proofs.Chains.{both, check-true, check-first, check-place}
-use Rattle.rows.proofs.Equalities.{alike-decides}
+use Rattle.rows.proofs.Chains.{both, check_true, check_first, check_place}
+use Rattle.rows.proofs.Equalities.{alike_decides}
 use Rattle.methods.specs.LooksUp.{covers, listed, search_says, look_up_says, Covers}
-use Rattle.methods.specs.OpeningLaws.{opened-yes, opened-place}
+use Rattle.methods.specs.OpeningLaws.{opened_yes, opened_place}
 use Rattle.methods.specs.Questions.{Lawful}
 
 le_from : (a b : ℤ) → int_le a b ≡ true → a ≤ℤ b
 le_from a b e = omega (arith, ints)
 
-pub covers-yes : (fact goal : Numbers) → covers fact goal ≡ true → Covers goal fact
-covers-yes fact goal e =
+pub covers_yes : (fact goal : Numbers) → covers fact goal ≡ true → Covers goal fact
+covers_yes fact goal e =
     let p = and_parts (alike fact.coefficients goal.coefficients) (int_le fact.bound goal.bound) e in
-    record { same-coefficients = (alike-decides fact.coefficients goal.coefficients).0 p.0; bound-at-most = le_from _ _ p.1 }
+    record { same_coefficients = (alike_decides fact.coefficients goal.coefficients).0 p.0; bound_at_most_lem = le_from _ _ p.1 }
 
 has_here : (x : Numbers) (xs : List Numbers) → Has (x ∷ xs) x
 has_here x xs = (0, omega arith, λ d. refl)
 
-has-later : (x y : Numbers) (xs : List Numbers) → Has xs y → Has (x ∷ xs) y
-has-later x y xs (k, l, h) = (suc k, omega arith, h)
+has_later : (x y : Numbers) (xs : List Numbers) → Has xs y → Has (x ∷ xs) y
+has_later x y xs (k, l, h) = (suc k, omega arith, h)
 
 -- a yes of the search finds a fact
-pub listed-yes : (goal : Numbers) (facts : List Numbers) → listed goal facts ≡ true → (fact : Numbers) × (Has facts fact × Covers goal fact)
-listed-yes goal [] e = let z : ◌≡◌ {A = ℕ} 0 1 = cc in absurd (omega arith)
-listed-yes goal (f ∷ fs) e =
+pub listed_yes : (goal : Numbers) (facts : List Numbers) → listed goal facts ≡ true → (fact : Numbers) × (Has facts fact × Covers goal fact)
+listed_yes goal [] e = let z : ◌≡◌ {A = ℕ} 0 1 = cc in absurd (omega arith)
+listed_yes goal (f ∷ fs) e =
     elim (or_cases (covers f goal) (listed goal fs) e) [
-      | inl a ↦ (f, (has_here f fs, covers-yes f goal a))
-      | inr b ↦ let r = listed-yes goal fs b in (r.0, (has-later f r.0 fs r.1.0, r.1.1))
+      | inl a ↦ (f, (has_here f fs, covers_yes f goal a))
+      | inr b ↦ let r = listed_yes goal fs b in (r.0, (has_later f r.0 fs r.1.0, r.1.1))
     ]
 
 le_trans : (a b c : ℤ) → a ≤ℤ b → b ≤ℤ c → a ≤ℤ c
@@ -48,29 +48,29 @@ le_trans a b c h k = omega (arith, ints)
 -- a point that meets the fact meets the goal
 covered : (goal fact : Numbers) (point : List ℤ) → Covers goal fact → Meets point fact → Meets point goal
 covered goal fact point c m =
-    subst (λ (cs : List ℤ). dot cs point ≤ℤ goal.bound) c.same-coefficients (le_trans _ _ _ m c.bound-at-most)
+    subst (λ (cs : List ℤ). dot cs point ≤ℤ goal.bound) c.same_coefficients (le_trans _ _ _ m c.bound_at_most_lem)
 
-pub search-yes : (facts : List Numbers) (goal : Numbers) (certificate : List ℕ) → search_says facts goal certificate ≡ Ok tt → (length certificate ≡ 0) × (listed goal facts ≡ true)
+pub search_yes : (facts : List Numbers) (goal : Numbers) (certificate : List ℕ) → search_says facts goal certificate ≡ Ok tt → (length certificate ≡ 0) × (listed goal facts ≡ true)
 unfolding search_says
-search-yes facts goal certificate e =
+search_yes facts goal certificate e =
     let p = both (check (length certificate == 0) (fault_of CertificateLength 0 0 0)) (check (listed goal facts) (fault_of BoundNotShown 0 0 columns)) e in
-    (eqb-true _ _ (check-true _ _ p.0), check-true _ _ p.1)
+    (eqb-true _ _ (check_true _ _ p.0), check_true _ _ p.1)
 
-search-sound : (facts : List Numbers) (goal : Numbers) (certificate : List ℕ) → search_says facts goal certificate ≡ Ok tt → (point : List ℤ) → MeetsAll point facts → Meets point goal
-search-sound facts goal certificate e point m =
-    let r = listed-yes goal facts (search-yes facts goal certificate e).1 in
+search_sound : (facts : List Numbers) (goal : Numbers) (certificate : List ℕ) → search_says facts goal certificate ≡ Ok tt → (point : List ℤ) → MeetsAll point facts → Meets point goal
+search_sound facts goal certificate e point m =
+    let r = listed_yes goal facts (search_yes facts goal certificate e).1 in
     covered goal r.0 point r.1.1 (all-has (Meets point) facts r.0 m r.1.0)
 
-search-placed : (facts : List Numbers) (goal : Numbers) (certificate : List ℕ) (f : Fault) → search_says facts goal certificate ≡ Err f → f.place ≤ length certificate
+search_placed : (facts : List Numbers) (goal : Numbers) (certificate : List ℕ) (f : Fault) → search_says facts goal certificate ≡ Err f → f.place ≤ length certificate
 unfolding search_says
-search-placed facts goal certificate f e =
-    check-first (length certificate == 0) CertificateLength 0 (check (listed goal facts) (fault_of BoundNotShown 0 0 columns)) f e
+search_placed facts goal certificate f e =
+    check_first (length certificate == 0) CertificateLength 0 (check (listed goal facts) (fault_of BoundNotShown 0 0 columns)) f e
     (λ z. omega arith)
-    (λ t h. let p = check-place (listed goal facts) BoundNotShown columns f h in omega arith)
+    (λ t h. let p = check_place (listed goal facts) BoundNotShown columns f h in omega arith)
 
 pub look_up_lawful : Lawful look_up_says
 look_up_lawful =
     record {
-      sound = λ q e. search-sound q.facts q.goal q.certificate (opened-yes (λ q. search_says q.facts q.goal q.certificate) q e).1;
-      placed = λ q f e. opened-place (λ q. search_says q.facts q.goal q.certificate) q f e (λ z. omega arith) (search-placed q.facts q.goal q.certificate f);
+      sound = λ q e. search_sound q.facts q.goal q.certificate (opened_yes (λ q. search_says q.facts q.goal q.certificate) q e).1;
+      placed = λ q f e. opened_place (λ q. search_says q.facts q.goal q.certificate) q f e (λ z. omega arith) (search_placed q.facts q.goal q.certificate f);
     }

@@ -39,10 +39,10 @@ opened rest q =
 -- when the opening tests are passed
 pub record Opened (facts : List Numbers) (goal : Numbers) : Type 0 where
   pub few : length facts ≤ most_facts
-  pub are-rows : AllByRecursion (Within (magnitude_of RowNumber)) facts
-  pub goal-is-row : Within (magnitude_of RowNumber) goal
+  pub are_rows : AllByRecursion (Within (magnitude_of RowNumber)) facts
+  pub goal_is_row : Within (magnitude_of RowNumber) goal
 
 -- at most 32 facts and no more than the sheet's rows, and all facts and the goal are rows
 pub record Begun (q : Question) : Type 0 where
-  pub in-sheet : length q.facts ≤ q.rows
+  pub in_sheet : length q.facts ≤ q.rows
   pub opened : Opened q.facts q.goal

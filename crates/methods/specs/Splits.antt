@@ -73,8 +73,8 @@ pub record SplitOwnYes (below : Meaning) (q : Question) : Type 0 where
   pub room : (length q.facts < most_facts) × (length q.facts < q.rows)
   pub long : second_from q.certificate ≤ length q.certificate
   pub written : Within (magnitude_of WrittenNumber) (split_row q.certificate)
-  pub first-yes : below (adding (split_row q.certificate) (first_part q.certificate) q) ≡ Ok tt
-  pub second-yes : below (adding (opposite_of (split_row q.certificate)) (second_part q.certificate) q) ≡ Ok tt
+  pub first_yes : below (adding (split_row q.certificate) (first_part q.certificate) q) ≡ Ok tt
+  pub second_yes : below (adding (opposite_of (split_row q.certificate)) (second_part q.certificate) q) ≡ Ok tt
 
 -- when the split says yes
 pub record SplitYes (below : Meaning) (q : Question) : Type 0 where

@@ -52,8 +52,8 @@ multipliers_say = opened (λ q. sums_say q.facts q.goal q.certificate)
 pub record MultipliersYes (q : Question) : Type 0 where
   pub begun : Begun q
   pub whole : length q.certificate ≡ weights_from + 2 * length q.facts
-  pub goal-weight-least : 1 ≤ word_at q.certificate 0
-  pub goal-weight-most : word_at q.certificate 0 ≤ most_weight
+  pub goal_weight_least : 1 ≤ word_at q.certificate 0
+  pub goal_weight_most : word_at q.certificate 0 ≤ most_weight
   pub weights : (i : ℕ) → i < length q.facts → word_at q.certificate (weights_from + 2 * i) ≤ most_weight
-  pub columns-agree : (k : ℕ) → k < columns → weighted k q.certificate weights_from q.facts ≡ scaled q.goal q.certificate k
-  pub bound-shown : Shown q.facts q.goal q.certificate
+  pub columns_agree : (k : ℕ) → k < columns → weighted k q.certificate weights_from q.facts ≡ scaled q.goal q.certificate k
+  pub bound_shown : Shown q.facts q.goal q.certificate

@@ -11,4 +11,4 @@ use Rattle.methods.specs.Weights.{most_weight}
 pub record Comparable (certificate : List ℕ) (goal : Numbers) : Type 0 where
   pub is_row : Within (magnitude_of RowNumber) goal
   pub there : 1 < length certificate
-  pub in-range : word_at certificate 0 ≤ most_weight
+  pub in_range_lem : word_at certificate 0 ≤ most_weight

@@ -12,6 +12,6 @@ use Rattle.methods.specs.Weights.{most_weight}
 -- few facts, all of them rows, with a multiplier in range for each from `at` on
 pub record Weighable (bytes : List ℕ) (at : ℕ) (facts : List Numbers) : Type 0 where
   pub few : length facts ≤ most_facts
-  pub are-rows : AllByRecursion (Within (magnitude_of RowNumber)) facts
+  pub are_rows : AllByRecursion (Within (magnitude_of RowNumber)) facts
   pub inside : at + 2 * length facts ≤ length bytes
-  pub in-range : (i : ℕ) → i < length facts → word_at bytes (at + 2 * i) ≤ most_weight
+  pub in_range_lem : (i : ℕ) → i < length facts → word_at bytes (at + 2 * i) ≤ most_weight

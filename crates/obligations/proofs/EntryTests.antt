@@ -7,16 +7,16 @@ use Rattle.records.specs.declared.records.PlanEntry.{PlanEntry}
 use Rattle.records.specs.Bounded.{listed, plain_list}
 use Rattle.records.specs.Records.{EntryData, entry_of}
 use Rattle.semantics.specs.Obligations.{tests}
-use Rattle.obligations.proofs.ShortLists.{listed-most}
+use Rattle.obligations.proofs.ShortLists.{listed_most}
 
-pub tests-length : (es : List PlanEntry) → length (tests (map entry_of es)) ≡ length es
-tests-length es = length-map (map entry_of es) (λ (e : EntryData). e.test) ∙ length-map es entry_of
+pub tests_length : (es : List PlanEntry) → length (tests (map entry_of es)) ≡ length es
+tests_length es = length-map (map entry_of es) (λ (e : EntryData). e.test) ∙ length-map es entry_of
 
-pub opposites-most : {N : ℕ} (tested : BoundedList PlanEntry N) (n : ℕ) → length (map opposite_of (take n (tests (plain_list entry_of tested)))) ≤ N
-opposites-most tested n =
+pub opposites_most : {N : ℕ} (tested : BoundedList PlanEntry N) (n : ℕ) → length (map opposite_of (take n (tests (plain_list entry_of tested)))) ≤ N
+opposites_most tested n =
     let xs = tests (plain_list entry_of tested) in
-    let m = listed-most tested in
-    let t = tests-length (listed tested) in
+    let m = listed_most tested in
+    let t = tests_length (listed tested) in
     let k = length-take n xs in
     let o = length-map (take n xs) opposite_of in
     omega (arith, m, t, k, o)

@@ -11,8 +11,8 @@ use Rattle.rows.specs.Zeros.{zero_numbers}
 use Rattle.semantics.specs.Runs.{value_at}
 use Rattle.semantics.specs.Vectors.{padded}
 
-pub length-padded : (n : ℕ) (xs : List ℤ) → length (padded n xs) ≡ n
-length-padded n xs =
+pub length_padded : (n : ℕ) (xs : List ℤ) → length (padded n xs) ≡ n
+length_padded n xs =
     let t = length-take n (xs ++ replicate n (pos 0)) in
     let a = length-append xs (replicate n (pos 0)) in
     let r = length-replicate n (pos 0) in
@@ -27,17 +27,17 @@ get_or-padded n xs k l =
     ]
 
 -- the expression of zeros has the value zero
-dot-zeros : (n m : ℕ) (vs : List ℤ) → n ≤ m → dot_to n (replicate m (pos 0)) vs ≡ pos 0
-dot-zeros zero m vs l = refl
-dot-zeros (suc n) m vs l =
-    let h = dot-zeros n m vs (omega arith) in
+dot_zeros : (n m : ℕ) (vs : List ℤ) → n ≤ m → dot_to n (replicate m (pos 0)) vs ≡ pos 0
+dot_zeros zero m vs l = refl
+dot_zeros (suc n) m vs l =
+    let h = dot_zeros n m vs (omega arith) in
     let e = get_or-replicate m n (pos 0) (pos 0) (omega arith) in
     let p : get_or (replicate m (pos 0)) n (pos 0) *ℤ get_or vs n (pos 0) ≡ pos 0 = rw e (omega (arith, ints)) in
     omega (arith, ints, h, p)
 
-pub value-zero : (point : List ℤ) → value_at point zero_numbers ≡ pos 0
+pub value_zero : (point : List ℤ) → value_at point zero_numbers ≡ pos 0
 unfolding dot
-value-zero point = let h = dot-zeros columns columns point (omega arith) in omega (arith, ints, h)
+value_zero point = let h = dot_zeros columns columns point (omega arith) in omega (arith, ints, h)
 
 -- a function of an element read, where the function of the filler is the filler of the functions
 pub get_or-mapped : {X Y : Type 0} (f : X → Y) (xs : List X) (k : ℕ) (d : X) (e : Y) → f d ≡ e → f (get_or xs k d) ≡ get_or (map f xs) k e
@@ -46,5 +46,5 @@ get_or-mapped f (x ∷ xs) zero d e h = refl
 get_or-mapped f (x ∷ xs) (suc k) d e h = get_or-mapped f xs k d e h
 
 -- the value of the expression with an index, zero where there is none
-pub value-padded : (n : ℕ) (point : List ℤ) (es : List Numbers) (k : ℕ) → k < n → value_at point (get_or es k zero_numbers) ≡ get_or (padded n (map (value_at point) es)) k (pos 0)
-value-padded n point es k l = get_or-mapped (value_at point) es k zero_numbers (pos 0) (value-zero point) ∙ sym (get_or-padded n (map (value_at point) es) k l)
+pub value_padded : (n : ℕ) (point : List ℤ) (es : List Numbers) (k : ℕ) → k < n → value_at point (get_or es k zero_numbers) ≡ get_or (padded n (map (value_at point) es)) k (pos 0)
+value_padded n point es k l = get_or-mapped (value_at point) es k zero_numbers (pos 0) (value_zero point) ∙ sym (get_or-padded n (map (value_at point) es) k l)

@@ -21,11 +21,11 @@ filled_more n f xs k v h l e =
     }
 
 -- the same with a number that the code worked out at 64 bits
-pub filled-coded : (n : ℕ) (f : ℕ → ℤ) (xs : List ℤ) (k : ℕ) (r : ℤ) → Filled n f xs k → k < n → SFits w64 r → r ≡ f k → Filled n f (set xs k (to_z w64 (of_z w64 r))) (k + 1)
-filled-coded n f xs k r h l b e = filled_more n f xs k _ h l (to_z-of_z w64 r b ∙ e)
+pub filled_coded : (n : ℕ) (f : ℕ → ℤ) (xs : List ℤ) (k : ℕ) (r : ℤ) → Filled n f xs k → k < n → SFits w64 r → r ≡ f k → Filled n f (set xs k (to_z w64 (of_z w64 r))) (k + 1)
+filled_coded n f xs k r h l b e = filled_more n f xs k _ h l (to_z-of_z w64 r b ∙ e)
 
 -- the whole is the list with these elements
-pub filled-all : (n : ℕ) (f : ℕ → ℤ) (xs ys : List ℤ) (k : ℕ) → Filled n f xs k → n ≤ k → length ys ≡ n → ((i : ℕ) → i < n → f i ≡ get_or ys i (pos 0)) → xs ≡ ys
-filled-all n f xs ys k h l m e =
+pub filled_all : (n : ℕ) (f : ℕ → ℤ) (xs ys : List ℤ) (k : ℕ) → Filled n f xs k → n ≤ k → length ys ≡ n → ((i : ℕ) → i < n → f i ≡ get_or ys i (pos 0)) → xs ≡ ys
+filled_all n f xs ys k h l m e =
     let s = h.sized in
     ext_get_or (pos 0) xs ys (s ∙ sym m) (λ i b. h.so_far i (omega arith) ∙ e i (omega arith))

@@ -10,5 +10,5 @@ pub missing : {A B : Type 0} (o : Option A) (next : A → Option B) (r : Option 
 missing o next r e h = h ∙ ap (λ (p : Option _). given p next) e
 
 -- the same facts and the same goal are the same question
-pub same-posed : (facts others : List Numbers) (goal other : Numbers) → facts ≡ others → goal ≡ other → ◌≡◌ {A = Option Posed} (Some (posed facts goal)) (Some (posed others other))
-same-posed facts others goal other e h = rw (e, h)
+pub same_posed : (facts others : List Numbers) (goal other : Numbers) → facts ≡ others → goal ≡ other → ◌≡◌ {A = Option Posed} (Some (posed facts goal)) (Some (posed others other))
+same_posed facts others goal other e h = rw (e, h)

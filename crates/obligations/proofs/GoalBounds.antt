@@ -14,8 +14,8 @@ use Rattle.rows.specs.declared.written.WrittenRow.{WrittenRow}
 use Rattle.rows.specs.Limits.{columns, magnitude_of, within}
 use Rattle.rows.specs.Shapes.{item_of, Within}
 use Rattle.rows.specs.Zeros.{zero_numbers}
-use Rattle.rows.proofs.Bounds.{Bounded, bounded, product-bounded, sum-bounded, Accumulated, turn, passed-bounded}
-use Rattle.rows.proofs.Items.{item-column, item-bound}
+use Rattle.rows.proofs.Bounds.{Bounded, bounded, product_bounded, sum_bounded, Accumulated, turn, passed_bounded}
+use Rattle.rows.proofs.Items.{item_column, item_bound}
 use Rattle.records.specs.declared.records.Inner.{Inner}
 use Rattle.records.specs.declared.records.Transition.{Transition}
 use Rattle.records.specs.Bounded.{listed}
@@ -24,46 +24,46 @@ use Rattle.records.specs.Records.{row_of, expression_of, transition_of, inner_of
 use Rattle.formats.specs.Pieces.{each}
 use Rattle.semantics.specs.Goals.{coefficient, sum_to, combined, kept_or_zero, after_update, with_choices}
 use Rattle.obligations.specs.Goals.{sum_limit, Addends}
-use Rattle.obligations.proofs.FilledArrays.{Filled, filled-all}
+use Rattle.obligations.proofs.FilledArrays.{Filled, filled_all}
 
 -- how large one product of written numbers is
 abbrev pub most_product : ℕ
 most_product = magnitude_of WrittenNumber * magnitude_of WrittenNumber
 
 -- every number of a row within a limit is bounded, also past its items, where it is the bound again
-pub item-bounded : (most : ℕ) (row : Numbers) (k : ℕ) → Within most row → Bounded most (item_of row k)
-item-bounded most row k w =
+pub item_bounded : (most : ℕ) (row : Numbers) (k : ℕ) → Within most row → Bounded most (item_of row k)
+item_bounded most row k w =
     elim (cases_lt k columns) [
       | inl l ↦ bounded most _ (w k (omega arith))
-      | inr l ↦ subst (Bounded most) (item-bound row columns (omega arith) ∙ sym (item-bound row k l)) (bounded most _ (w columns (omega arith)))
+      | inr l ↦ subst (Bounded most) (item_bound row columns (omega arith) ∙ sym (item_bound row k l)) (bounded most _ (w columns (omega arith)))
     ]
 
-item-zero : (k : ℕ) → item_of zero_numbers k ≡ pos 0
-item-zero k = elim (cases_lt k columns) [ inl l ↦ item-column zero_numbers k l ∙ get_or-replicate columns k (pos 0) (pos 0) l | inr l ↦ item-bound zero_numbers k l ]
+item_zero : (k : ℕ) → item_of zero_numbers k ≡ pos 0
+item_zero k = elim (cases_lt k columns) [ inl l ↦ item_column zero_numbers k l ∙ get_or-replicate columns k (pos 0) (pos 0) l | inr l ↦ item_bound zero_numbers k l ]
 
 -- an expression that is read, or the zeros where none is
-pub read-within : (es : List Expression) (i : ℕ) (k : ℕ) → Bounded (magnitude_of WrittenNumber) (item_of (get_or (map expression_of es) i zero_numbers) k)
-read-within [] i k = subst (Bounded (magnitude_of WrittenNumber)) (sym (item-zero k)) (record { low = omega (arith, ints); high = omega (arith, ints) })
-read-within (e ∷ es) zero k = item-bounded (magnitude_of WrittenNumber) (expression_of e) k e.held
-read-within (e ∷ es) (suc i) k = read-within es i k
+pub read_within : (es : List Expression) (i : ℕ) (k : ℕ) → Bounded (magnitude_of WrittenNumber) (item_of (get_or (map expression_of es) i zero_numbers) k)
+read_within [] i k = subst (Bounded (magnitude_of WrittenNumber)) (sym (item_zero k)) (record { low = omega (arith, ints); high = omega (arith, ints) })
+read_within (e ∷ es) zero k = item_bounded (magnitude_of WrittenNumber) (expression_of e) k e.held
+read_within (e ∷ es) (suc i) k = read_within es i k
 
-pub column-bounded : (row : WrittenRow) (k : ℕ) → k < columns → Bounded (magnitude_of WrittenNumber) (coefficient (row_of row) k)
-column-bounded row k l = subst (Bounded (magnitude_of WrittenNumber)) (item-column (row_of row) k l) (item-bounded (magnitude_of WrittenNumber) (row_of row) k row.held)
+pub column_bounded : (row : WrittenRow) (k : ℕ) → k < columns → Bounded (magnitude_of WrittenNumber) (coefficient (row_of row) k)
+column_bounded row k l = subst (Bounded (magnitude_of WrittenNumber)) (item_column (row_of row) k l) (item_bounded (magnitude_of WrittenNumber) (row_of row) k row.held)
 
 -- a term of the sum
 abbrev pub term : Numbers → ℕ → List Numbers → ℕ → ℕ → ℤ
 term row from es item i = coefficient row (from + i) *ℤ item_of (get_or es i zero_numbers) item
 
-pub term-bounded : (row : WrittenRow) (from : ℕ) (es : List Expression) (item i : ℕ) → from + i < columns → Bounded most_product (term (row_of row) from (map expression_of es) item i)
-term-bounded row from es item i l =
-    product-bounded (magnitude_of WrittenNumber) (magnitude_of WrittenNumber) _ _
-    (column-bounded row (from + i) l)
-    (read-within es i item)
+pub term_bounded : (row : WrittenRow) (from : ℕ) (es : List Expression) (item i : ℕ) → from + i < columns → Bounded most_product (term (row_of row) from (map expression_of es) item i)
+term_bounded row from es item i l =
+    product_bounded (magnitude_of WrittenNumber) (magnitude_of WrittenNumber) _ _
+    (column_bounded row (from + i) l)
+    (read_within es i item)
 
 -- n terms of which each is within a limit
-pub sum-to-bounded : (n most : ℕ) (f : ℕ → ℤ) → ((i : ℕ) → i < n → Bounded most (f i)) → Bounded (n * most) (sum_to n f)
-sum-to-bounded zero most f h = record { low = omega (arith, ints); high = omega (arith, ints) }
-sum-to-bounded (suc n) most f h = rw (sym (add-one n)) (sum-bounded n most _ _ (sum-to-bounded n most f (λ i l. h i (omega arith))) (h n (omega arith)))
+pub sum_to_bounded : (n most : ℕ) (f : ℕ → ℤ) → ((i : ℕ) → i < n → Bounded most (f i)) → Bounded (n * most) (sum_to n f)
+sum_to_bounded zero most f h = record { low = omega (arith, ints); high = omega (arith, ints) }
+sum_to_bounded (suc n) most f h = rw (sym (add-one n)) (sum_bounded n most _ _ (sum_to_bounded n most f (λ i l. h i (omega arith))) (h n (omega arith)))
 
 -- The loop that adds up the terms: what it has after k of them.
 pub record Added (most : ℕ) (f : ℕ → ℤ) (k : ℕ) (sum : ℤ) : Type 0 where
@@ -78,23 +78,23 @@ pub record AddedTurn (most : ℕ) (f : ℕ → ℤ) (k bits : ℕ) (x y : ℤ) :
   pub step : Accumulated bits x y
   pub again : Added most f (k + 1) (to_z w64 (of_z w64 (to_z w64 bits +ℤ to_z w64 (of_z w64 (to_z w64 (of_z w64 x) *ℤ to_z w64 (of_z w64 y))))))
 
-pub added-turn : (n most : ℕ) (f : ℕ → ℤ) (k bits : ℕ) (x y : ℤ) → n * most < 2 ^ 63 → k < n → SFits w64 x → SFits w64 y → x *ℤ y ≡ f k → Bounded most (f k) → Added most f k (to_z w64 bits) → AddedTurn most f k bits x y
-added-turn n most f k bits x y h l fx fy e b s =
+pub added_turn : (n most : ℕ) (f : ℕ → ℤ) (k bits : ℕ) (x y : ℤ) → n * most < 2 ^ 63 → k < n → SFits w64 x → SFits w64 y → x *ℤ y ≡ f k → Bounded most (f k) → Added most f k (to_z w64 bits) → AddedTurn most f k bits x y
+added_turn n most f k bits x y h l fx fy e b s =
     let p : Bounded most (x *ℤ y) = subst (Bounded most) (sym e) b in
     let t = turn k n most bits x y l h fx fy p s.small in
     record {
       step = t;
       again = record {
         so_far = t.is ∙ ap (λ (z : ℤ). z +ℤ x *ℤ y) s.so_far ∙ ap (λ (z : ℤ). sum_to k f +ℤ z) e ∙ rw add-one;
-        small = subst (Bounded ((k + 1) * most)) (sym t.is) (sum-bounded k most _ _ s.small p);
+        small = subst (Bounded ((k + 1) * most)) (sym t.is) (sum_bounded k most _ _ s.small p);
       };
     }
 
 -- the whole sum, over at most the columns of a row
-pub combined-bounded : (row : WrittenRow) (from n : ℕ) (es : List Expression) (item : ℕ) → from + n ≤ columns → Bounded (sum_limit) (combined (row_of row) from n (map expression_of es) item)
+pub combined_bounded : (row : WrittenRow) (from n : ℕ) (es : List Expression) (item : ℕ) → from + n ≤ columns → Bounded (sum_limit) (combined (row_of row) from n (map expression_of es) item)
 unfolding combined
-combined-bounded row from n es item l =
-    let s = sum-to-bounded n most_product (term (row_of row) from (map expression_of es) item) (λ i h. term-bounded row from es item i (omega arith)) in
+combined_bounded row from n es item l =
+    let s = sum_to_bounded n most_product (term (row_of row) from (map expression_of es) item) (λ i h. term_bounded row from es item i (omega arith)) in
     let m : n * most_product ≤ sum_limit = mul-le n most_product columns most_product (omega arith) (omega arith) in
     record { low = omega (arith, ints); high = omega (arith, ints) }
 
@@ -111,49 +111,49 @@ widened z b = record { low = omega (arith, ints); high = omega (arith, ints) }
 -- as they are passed to a function, to their bits and back
 pub addends : (a z : ℤ) → Bounded (magnitude_of WrittenNumber) a → Bounded sum_limit z → Addends (to_z w64 (of_z w64 a)) (to_z w64 (of_z w64 z))
 addends a z f g =
-    let p = passed-bounded (magnitude_of WrittenNumber) (magnitude_of WrittenNumber) a (lit≤ tt) (lit< tt) f in
-    let q = passed-bounded sum_limit sum_limit z (lit≤ tt) (lit< tt) g in
-    record { number-low = p.0; number-high = p.1; sum_low = q.0; sum-high = q.1 }
+    let p = passed_bounded (magnitude_of WrittenNumber) (magnitude_of WrittenNumber) a (lit≤ tt) (lit< tt) f in
+    let q = passed_bounded sum_limit sum_limit z (lit≤ tt) (lit< tt) g in
+    record { number_low = p.0; number_high = p.1; sum_low = q.0; sum_high = q.1 }
 
 -- what a function answers of two numbers that are passed so
-pub worked-out : (op : ℤ → ℤ → ℤ) (r a b x y : ℤ) → SFits w64 r → SFits w64 a → SFits w64 b → r ≡ op (to_z w64 (of_z w64 a)) (to_z w64 (of_z w64 b)) → a ≡ x → b ≡ y → to_z w64 (of_z w64 r) ≡ op x y
-worked-out op r a b x y fr fa fb e ea eb = to_z-of_z w64 r fr ∙ e ∙ ap (λ (z : ℤ). op z (to_z w64 (of_z w64 b))) (to_z-of_z w64 a fa ∙ ea) ∙ ap (op x) (to_z-of_z w64 b fb ∙ eb)
+pub worked_out : (op : ℤ → ℤ → ℤ) (r a b x y : ℤ) → SFits w64 r → SFits w64 a → SFits w64 b → r ≡ op (to_z w64 (of_z w64 a)) (to_z w64 (of_z w64 b)) → a ≡ x → b ≡ y → to_z w64 (of_z w64 r) ≡ op x y
+worked_out op r a b x y fr fa fb e ea eb = to_z-of_z w64 r fr ∙ e ∙ ap (λ (z : ℤ). op z (to_z w64 (of_z w64 b))) (to_z-of_z w64 a fa ∙ ea) ∙ ap (op x) (to_z-of_z w64 b fb ∙ eb)
 
 -- a row of which each number is bounded is within the limit
-within-true : (most : ℕ) (z : ℤ) → Bounded most z → within most z ≡ true
-within-true most z b =
+within_true : (most : ℕ) (z : ℤ) → Bounded most z → within most z ≡ true
+within_true most z b =
     let lo = b.low in
     let hi = b.high in
     and_from (le_z (neg_ℤ (pos most)) z) (le_z z (pos most)) (grind (arith, ints)) (grind (arith, ints))
 
-pub all-within : (most : ℕ) (f : ℕ → ℤ) (bound : ℤ) → ((k : ℕ) → k < columns → Bounded most (f k)) → Bounded most bound → Within most (record { coefficients = each f columns; bound = bound })
-all-within most f bound h b k l =
+pub all_within_lem : (most : ℕ) (f : ℕ → ℤ) (bound : ℤ) → ((k : ℕ) → k < columns → Bounded most (f k)) → Bounded most bound → Within most (record { coefficients = each f columns; bound = bound })
+all_within_lem most f bound h b k l =
     elim (cases_lt k columns) [
-      | inl m ↦ ap (within most) (item-column (record { coefficients = each f columns; bound = bound }) k m ∙ get_or-map-range_with_len f 0 columns k k (pos 0) m (omega arith)) ∙ within-true most (f k) (h k m)
-      | inr m ↦ ap (within most) (item-bound (record { coefficients = each f columns; bound = bound }) k m) ∙ within-true most bound b
+      | inl m ↦ ap (within most) (item_column (record { coefficients = each f columns; bound = bound }) k m ∙ get_or-map-range_with_len f 0 columns k k (pos 0) m (omega arith)) ∙ within_true most (f k) (h k m)
+      | inr m ↦ ap (within most) (item_bound (record { coefficients = each f columns; bound = bound }) k m) ∙ within_true most bound b
     ]
 
 -- the loop that fills the coefficients of a goal
-pub each-filled : (f : ℕ → ℤ) (xs : List ℤ) (k : ℕ) → Filled columns f xs k → columns ≤ k → xs ≡ each f columns
-each-filled f xs k h l = filled-all columns f xs (each f columns) k h l (length-map-range_with_len f 0 columns) (λ i m. sym (get_or-map-range_with_len f 0 columns i i (pos 0) m (omega arith)))
+pub each_filled : (f : ℕ → ℤ) (xs : List ℤ) (k : ℕ) → Filled columns f xs k → columns ≤ k → xs ≡ each f columns
+each_filled f xs k h l = filled_all columns f xs (each f columns) k h l (length-map-range_with_len f 0 columns) (λ i m. sym (get_or-map-range_with_len f 0 columns i i (pos 0) m (omega arith)))
 
 -- both goals are within the limit of rows
-pub after-update-within : (t : Transition) (row : WrittenRow) → Within (magnitude_of RowNumber) (after_update (transition_of t) (row_of row))
-after-update-within t row =
+pub after_update_within : (t : Transition) (row : WrittenRow) → Within (magnitude_of RowNumber) (after_update (transition_of t) (row_of row))
+after_update_within t row =
     let es = listed t.updates in
-    let b = λ (k : ℕ). combined-bounded row 0 most_values es k (omega arith) in
-    all-within (magnitude_of RowNumber) _ _ (λ k l. widened _ (b k))
-    (lowered _ _ (item-bounded (magnitude_of WrittenNumber) (row_of row) columns row.held) (b columns))
+    let b = λ (k : ℕ). combined_bounded row 0 most_values es k (omega arith) in
+    all_within_lem (magnitude_of RowNumber) _ _ (λ k l. widened _ (b k))
+    (lowered _ _ (item_bounded (magnitude_of WrittenNumber) (row_of row) columns row.held) (b columns))
 
-pub with-choices-within : (i : Inner) (row : WrittenRow) → Within (magnitude_of RowNumber) (with_choices (inner_of i) (row_of row))
-with-choices-within i row =
+pub with_choices_within : (i : Inner) (row : WrittenRow) → Within (magnitude_of RowNumber) (with_choices (inner_of i) (row_of row))
+with_choices_within i row =
     let es = listed i.choices in
-    all-within (magnitude_of RowNumber) _ _ kept
-    (lowered _ _ (item-bounded (magnitude_of WrittenNumber) (row_of row) columns row.held) (combined-bounded row most_values most_choices es columns (omega arith)))
+    all_within_lem (magnitude_of RowNumber) _ _ kept
+    (lowered _ _ (item_bounded (magnitude_of WrittenNumber) (row_of row) columns row.held) (combined_bounded row most_values most_choices es columns (omega arith)))
   where
     kept : (k : ℕ) → k < columns → Bounded (magnitude_of RowNumber) (kept_or_zero (row_of row) (inner_of i).choices k)
     kept k l =
         elim (cases_lt k most_values) [
-          | inl m ↦ subst (Bounded (magnitude_of RowNumber)) (sym (cond-true _ _ _ (lt-ltb k most_values m))) (raised _ _ (column-bounded row k l) (combined-bounded row most_values most_choices (listed i.choices) k (omega arith)))
+          | inl m ↦ subst (Bounded (magnitude_of RowNumber)) (sym (cond-true _ _ _ (lt-ltb k most_values m))) (raised _ _ (column_bounded row k l) (combined_bounded row most_values most_choices (listed i.choices) k (omega arith)))
           | inr m ↦ subst (Bounded (magnitude_of RowNumber)) (sym (cond-false _ _ _ (le-ltb k most_values m))) (record { low = omega (arith, ints); high = omega (arith, ints) })
         ]

@@ -16,8 +16,8 @@ overwritten n k front rest ys f r =
     ∙ ap (λ (zs : List _). front ++ (ys ++ zs)) (d ∙ drop_all k rest (omega arith))
     ∙ ap (λ (zs : List _). front ++ zs) (append-nil ys)
 
-pub joined-within : (n m : ℕ) (xs ys : List ℤ) → length xs ≡ n → StateNumbers n xs → StateNumbers m ys → StateNumbers (n + m) (xs ++ ys)
-joined-within n m xs ys l f g k h =
+pub joined_within : (n m : ℕ) (xs ys : List ℤ) → length xs ≡ n → StateNumbers n xs → StateNumbers m ys → StateNumbers (n + m) (xs ++ ys)
+joined_within n m xs ys l f g k h =
     elim (cases_lt k n) [
       | inl lt ↦ ap (within (magnitude_of StateValue)) (get_or_append_left xs ys (pos 0) k (omega arith)) ∙ f k lt
       | inr le ↦ ap (within (magnitude_of StateValue)) (get_or-append_right xs ys n k (pos 0) l le) ∙ g (k - n) (omega arith)

@@ -12,30 +12,30 @@ module _ {X : Type 0} where
   by_first-cases [] x h = cc
   by_first-cases (y ∷ ys) x h = let s : x ≡ y = cc in rw s
 
-  pub drop-found : (i : ℕ) (xs : List X) (x : X) → Some x ≡ at i xs → drop i xs ≡ x ∷ drop (i + 1) xs
-  drop-found i xs x e = by_first-cases (drop i xs) x e ∙ ap (λ (ys : List X). x ∷ ys) (drop-drop 1 i xs)
+  pub drop_found : (i : ℕ) (xs : List X) (x : X) → Some x ≡ at i xs → drop i xs ≡ x ∷ drop (i + 1) xs
+  drop_found i xs x e = by_first-cases (drop i xs) x e ∙ ap (λ (ys : List X). x ∷ ys) (drop-drop 1 i xs)
 
-  by-none : (ys : List X) → None ≡ first ys → ys ≡ []
-  by-none [] h = refl
-  by-none (y ∷ ys) h = cc
+  by_none : (ys : List X) → None ≡ first ys → ys ≡ []
+  by_none [] h = refl
+  by_none (y ∷ ys) h = cc
 
-  pub drop-none : (i : ℕ) (xs : List X) → None ≡ at i xs → drop i xs ≡ []
-  drop-none i xs e = by-none (drop i xs) e
+  pub drop_none : (i : ℕ) (xs : List X) → None ≡ at i xs → drop i xs ≡ []
+  drop_none i xs e = by_none (drop i xs) e
 
   -- then the place lies past the end
-  pub past-none : (i : ℕ) (xs : List X) → None ≡ at i xs → length xs ≤ i
-  past-none i xs e =
-      let d = ap length (drop-none i xs e) in
+  pub past_none : (i : ℕ) (xs : List X) → None ≡ at i xs → length xs ≤ i
+  past_none i xs e =
+      let d = ap length (drop_none i xs e) in
       let l = length-drop i xs in
       omega (arith, d, l)
 
 -- the entry at a place decides
-pub plan-step : (point : List ℤ) (es : List PlanEntry) (i last : ℕ) (e : PlanEntry) (b : Bool) → Some e ≡ at i es → b ≡ meets point (entry_of e).test →
+pub plan_step_lem : (point : List ℤ) (es : List PlanEntry) (i last : ℕ) (e : PlanEntry) (b : Bool) → Some e ≡ at i es → b ≡ meets point (entry_of e).test →
     planned point (drop i (map entry_of es)) last ≡ cond b e.transition (planned point (drop (i + 1) (map entry_of es)) last)
-plan-step point es i last e b h t =
-    ap (λ (xs : List EntryData). planned point xs last) (drop-map entry_of i es ∙ ap (map entry_of) (drop-found i es e h) ∙ ap (λ (xs : List EntryData). entry_of e ∷ xs) (sym (drop-map entry_of (i + 1) es)))
+plan_step_lem point es i last e b h t =
+    ap (λ (xs : List EntryData). planned point xs last) (drop-map entry_of i es ∙ ap (map entry_of) (drop_found i es e h) ∙ ap (λ (xs : List EntryData). entry_of e ∷ xs) (sym (drop-map entry_of (i + 1) es)))
     ∙ ap (λ (c : Bool). cond c e.transition (planned point (drop (i + 1) (map entry_of es)) last)) (sym t)
 
 -- past the entries with a test
-pub plan-last : (point : List ℤ) (es : List PlanEntry) (i last : ℕ) → None ≡ at i es → planned point (drop i (map entry_of es)) last ≡ last
-plan-last point es i last h = ap (λ (xs : List EntryData). planned point xs last) (drop-map entry_of i es ∙ ap (map entry_of) (drop-none i es h))
+pub plan_last : (point : List ℤ) (es : List PlanEntry) (i last : ℕ) → None ≡ at i es → planned point (drop i (map entry_of es)) last ≡ last
+plan_last point es i last h = ap (λ (xs : List EntryData). planned point xs last) (drop-map entry_of i es ∙ ap (map entry_of) (drop_none i es h))

@@ -12,16 +12,16 @@ use Rattle.semantics.specs.declared.obligation.Obligation.{Obligation}
 use Rattle.semantics.specs.Enumerated.{Posed, posed, question_of, obligations_of}
 use Rattle.semantics.specs.Laws.{Fitting}
 use Rattle.semantics.specs.Obligations.{ObligationOf, Poses}
-use Rattle.semantics.proofs.Listing.{obligations-agree}
-use Rattle.semantics.proofs.Members.{at-member}
+use Rattle.semantics.proofs.Listing.{obligations_agree_lem}
+use Rattle.semantics.proofs.Members.{at_member}
 use Rattle.obligations.specs.declared.question.Question.{Question}
 use Rattle.obligations.specs.Questions.{Asks, Relates, Obliges, table_of, witness_of, posed_by}
 
 -- in a table and a witness
-relates-in : (table : TableData) (witness : WitnessData) (o : Obligation) (r : Option Question) → Fitting table witness → option_map posed_by r ≡ question_of table witness o → MatchOption r (ObligationOf table witness o → ⊥) (λ q. Poses table witness o (listed q.facts) q.goal)
-relates-in table witness o (Some q) fit e = (obligations-agree table witness fit).asks o (listed q.facts) q.goal (sym e)
-relates-in table witness o None fit e = λ x.
-    let h = (obligations-agree table witness fit).asked o x.0 x.1 x.2 in
+relates_in : (table : TableData) (witness : WitnessData) (o : Obligation) (r : Option Question) → Fitting table witness → option_map posed_by r ≡ question_of table witness o → MatchOption r (ObligationOf table witness o → ⊥) (λ q. Poses table witness o (listed q.facts) q.goal)
+relates_in table witness o (Some q) fit e = (obligations_agree_lem table witness fit).asks o (listed q.facts) q.goal (sym e)
+relates_in table witness o None fit e = λ x.
+    let h = (obligations_agree_lem table witness fit).asked o x.0 x.1 x.2 in
     let s : ◌≡◌ {A = Option Posed} None (Some (posed x.0 x.1)) = e ∙ h in
     let z : ◌≡◌ {A = ℕ} 0 1 = cc in omega arith
 
@@ -30,13 +30,13 @@ pub record Answered (table : Register Transition) (places : Register Place) (inn
   pub related : Relates table places inners o r
 
 pub answered : (table : Register Transition) (places : Register Place) (inners : Register Inner) (o : Obligation) (r : Option Question) → Asks (λ (t : TableData) (w : WitnessData). question_of t w o) table places inners r → Answered table places inners o r
-answered table places inners o r e = record { value = e; related = λ heading fit. relates-in _ _ o r fit (e heading) }
+answered table places inners o r e = record { value = e; related = λ heading fit. relates_in _ _ o r fit (e heading) }
 
 -- the obligation with an index
-obliges-in : (table : TableData) (witness : WitnessData) (k : ℕ) (r : Option Obligation) → Fitting table witness → r ≡ at k (obligations_of table witness) → IfSome r (ObligationOf table witness)
-obliges-in table witness k None fit e = tt
-obliges-in table witness k (Some o) fit e = (obligations-agree table witness fit).lists o (at-member (obligations_of table witness) k o (sym e))
+obliges_in : (table : TableData) (witness : WitnessData) (k : ℕ) (r : Option Obligation) → Fitting table witness → r ≡ at k (obligations_of table witness) → IfSome r (ObligationOf table witness)
+obliges_in table witness k None fit e = tt
+obliges_in table witness k (Some o) fit e = (obligations_agree_lem table witness fit).lists o (at_member (obligations_of table witness) k o (sym e))
 
 pub obliges : (table : Register Transition) (places : Register Place) (inners : Register Inner) (k : ℕ) (r : Option Obligation) →
     ((heading : HeadingData) → r ≡ at k (obligations_of (table_of heading table) (witness_of places inners))) → Obliges table places inners r
-obliges table places inners k r e heading fit = obliges-in _ _ k r fit (e heading)
+obliges table places inners k r e heading fit = obliges_in _ _ k r fit (e heading)

@@ -3,8 +3,8 @@ use Rattle.std.proofs.Common.{◌≡◌, ℕ, ◌+◌, ◌-◌, ◌<◌, List, [
 use Rattle.std.proofs.lemmas.List.{set-append_right, length-take-le, drop_more, take_more, append_assoc}
 
 module _ {X : Type 0} (facts before : List X) (i : ℕ) (d : X) (l : i < length facts) (m : i < length before) where
-  pub front-more : (sheet : List X) (x : X) → sheet ≡ take i facts ++ drop i before → x ≡ get_or facts i d → set sheet i x ≡ take (i + 1) facts ++ drop (i + 1) before
-  front-more sheet x e h =
+  pub front_more : (sheet : List X) (x : X) → sheet ≡ take i facts ++ drop i before → x ≡ get_or facts i d → set sheet i x ≡ take (i + 1) facts ++ drop (i + 1) before
+  front_more sheet x e h =
       let z : i - i ≡ 0 = omega arith in
       ap (λ (s : List X). set s i x) e
       ∙ set-append_right (take i facts) (drop i before) i i x (length-take-le i facts (omega arith)) (omega arith)

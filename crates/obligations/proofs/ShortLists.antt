@@ -5,30 +5,30 @@ use Rattle.std.specs.Option.{option_map}
 use Rattle.records.specs.declared.bounded.BoundedList.{BoundedList}
 use Rattle.records.specs.Bounded.{listed, plain_list}
 use Rattle.records.specs.Lists.{at}
-use Rattle.records.proofs.Fronts.{took-held, cut}
+use Rattle.records.proofs.Fronts.{took_held, cut}
 
-pub listed-most : {T : Type 0} {N : ℕ} (l : BoundedList T N) → length (listed l) ≤ N
-listed-most l =
+pub listed_most : {T : Type 0} {N : ℕ} (l : BoundedList T N) → length (listed l) ≤ N
+listed_most l =
     let t = length-take l.count l.items in
     let s = l.sized in
     omega (arith, t, s)
 
-pub plain-most : {T X : Type 0} {N : ℕ} (plain : T → X) (l : BoundedList T N) → length (plain_list plain l) ≤ N
-plain-most plain l =
-    let m = listed-most l in
+pub plain_most : {T X : Type 0} {N : ℕ} (plain : T → X) (l : BoundedList T N) → length (plain_list plain l) ≤ N
+plain_most plain l =
+    let m = listed_most l in
     let e = length-map (listed l) plain in
     omega (arith, m, e)
 
 module _ {X : Type 0} (start now rows : List X) (i : ℕ) (e : now ≡ start ++ take i rows) where
-  pub appended-length : i ≤ length rows → length now ≡ length start + i
-  appended-length l = ap length e ∙ length-append start (take i rows) ∙ ap (λ (n : ℕ). length start + n) (length-take-le i rows l)
+  pub appended_length : i ≤ length rows → length now ≡ length start + i
+  appended_length l = ap length e ∙ length-append start (take i rows) ∙ ap (λ (n : ℕ). length start + n) (length-take-le i rows l)
 
   -- one element more is put there, where the memory has room for it
-  pub appended-more : (d x : X) (next : List X) (took : Bool) (room : ℕ) → i < length rows → x ≡ get_or rows i d → length start + length rows ≤ room →
+  pub appended_more : (d x : X) (next : List X) (took : Bool) (room : ℕ) → i < length rows → x ≡ get_or rows i d → length start + length rows ≤ room →
       took ≡ ltb (length now) room → next ≡ cond took (now ++ x ∷ []) now → next ≡ start ++ take (i + 1) rows
-  appended-more d x next took room l h r t n =
-      let m = appended-length (omega arith) in
-      took-held took (length now) room next (now ++ x ∷ []) now t (omega arith) n
+  appended_more d x next took room l h r t n =
+      let m = appended_length (omega arith) in
+      took_held took (length now) room next (now ++ x ∷ []) now t (omega arith) n
       ∙ ap (λ (xs : List X). xs ++ x ∷ []) e
       ∙ append_assoc start (take i rows) (x ∷ [])
       ∙ ap (λ (y : X). start ++ (take i rows ++ y ∷ [])) h

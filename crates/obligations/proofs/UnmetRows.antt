@@ -9,7 +9,7 @@ use Rattle.rows.specs.declared.numbers.Numbers.{Numbers}
 use Rattle.rows.specs.Firsts.{NoneBelow}
 use Rattle.rows.specs.Shapes.{Meets, dot}
 use Rattle.rows.specs.Zeros.{zero_numbers}
-use Rattle.rows.proofs.First.{is-first, none-at}
+use Rattle.rows.proofs.First.{is_first, none_at}
 use Rattle.semantics.specs.Plans.{meets}
 use Rattle.obligations.specs.Unmet.{FirstUnmet}
 use Rattle.semantics.specs.Plans.{unmet}
@@ -21,26 +21,26 @@ int_le-decides a b = (λ e. omega (arith, ints, e), λ h. from (le_z a b) h.le)
     from true h = refl
     from false h = absurd h
 
-pub meets-decides : (point : List ℤ) (row : Numbers) → Decides (meets point row) (Meets point row)
-meets-decides point row = int_le-decides (dot row.coefficients point) row.bound
+pub meets_decides : (point : List ℤ) (row : Numbers) → Decides (meets point row) (Meets point row)
+meets_decides point row = int_le-decides (dot row.coefficients point) row.bound
 
 -- what the test of a row answers, where the row is the one with the index
 pub met_at : (point : List ℤ) (row : Numbers) (rows : List Numbers) (k : ℕ) (r : Bool) → Decides r (Meets point row) → row ≡ get_or rows k zero_numbers → r ≡ meets point (get_or rows k zero_numbers)
-met_at point row rows k r h e = same_from_decides r (meets point row) h (meets-decides point row) ∙ ap (meets point) e
+met_at point row rows k r h e = same_from_decides r (meets point row) h (meets_decides point row) ∙ ap (meets point) e
 
 -- none is unmet: all are met
-pub none-unmet : (point : List ℤ) (rows : List Numbers) (k : ℕ) → length rows ≤ k → NoneBelow (unmet point rows) k → FirstUnmet point rows None
-none-unmet point rows k l h =
-    let n = none-at (unmet point rows) (length rows) k l h in
+pub none_unmet : (point : List ℤ) (rows : List Numbers) (k : ℕ) → length rows ≤ k → NoneBelow (unmet point rows) k → FirstUnmet point rows None
+none_unmet point rows k l h =
+    let n = none_at (unmet point rows) (length rows) k l h in
     record {
-      value = is-first (unmet point rows) (length rows) None n;
+      value = is_first (unmet point rows) (length rows) None n;
       first = n;
-      all = All-from_get_or (Meets point) rows zero_numbers (λ i m. (meets-decides point (get_or rows i zero_numbers)).0 (not-false _ (n i m)));
+      all = All-from_get_or (Meets point) rows zero_numbers (λ i m. (meets_decides point (get_or rows i zero_numbers)).0 (not-false _ (n i m)));
     }
 
-pub some-unmet : (point : List ℤ) (rows : List Numbers) (k : ℕ) → k < length rows → unmet point rows k ≡ true → NoneBelow (unmet point rows) k → FirstUnmet point rows (Some k)
-some-unmet point rows k l u h = record {
-  value = is-first (unmet point rows) (length rows) (Some k) (l, u, h);
+pub some_unmet : (point : List ℤ) (rows : List Numbers) (k : ℕ) → k < length rows → unmet point rows k ≡ true → NoneBelow (unmet point rows) k → FirstUnmet point rows (Some k)
+some_unmet point rows k l u h = record {
+  value = is_first (unmet point rows) (length rows) (Some k) (l, u, h);
   first = (l, u, h);
-  all = λ m. both_ways _ (not-true _ u) ((meets-decides point (get_or rows k zero_numbers)).1 (All-get_or (Meets point) rows k zero_numbers l m));
+  all = λ m. both_ways _ (not-true _ u) ((meets_decides point (get_or rows k zero_numbers)).1 (All-get_or (Meets point) rows k zero_numbers l m));
 }

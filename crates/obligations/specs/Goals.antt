@@ -9,7 +9,7 @@ sum_limit = columns * (magnitude_of WrittenNumber * magnitude_of WrittenNumber)
 
 -- a written number and such a sum
 pub record Addends (number sum : ℤ) : Type 0 where
-  pub number-low : neg_ℤ (pos (magnitude_of WrittenNumber)) ≤ℤ number
-  pub number-high : number ≤ℤ pos (magnitude_of WrittenNumber)
+  pub number_low : neg_ℤ (pos (magnitude_of WrittenNumber)) ≤ℤ number
+  pub number_high : number ≤ℤ pos (magnitude_of WrittenNumber)
   pub sum_low : neg_ℤ (pos sum_limit) ≤ℤ sum
-  pub sum-high : sum ≤ℤ pos sum_limit
+  pub sum_high : sum ≤ℤ pos sum_limit

@@ -10,19 +10,19 @@ use Rattle.records.specs.Lists.{place_of, at, first, first_with, among}
 pub at_read : {X : Type 0} → (xs : List X) (i : ℕ) (x : X) → i < length xs → x ≡ get_or xs i x → Some x ≡ at i xs
 at_read xs i x h e = ap (λ v. Some v) e ∙ sym (at_drop_more first xs i x h)
 
-pub at-past : {X : Type 0} → (xs : List X) (i : ℕ) → length xs ≤ i → ◌≡◌ {A = Option X} None (at i xs)
-at-past xs i h = sym (at_drop_all first xs i h)
+pub at_past : {X : Type 0} → (xs : List X) (i : ℕ) → length xs ≤ i → ◌≡◌ {A = Option X} None (at i xs)
+at_past xs i h = sym (at_drop_all first xs i h)
 
 -- a read by cases
-pub read-cases : {X : Type 0} → (xs : List X) (i : ℕ) (r : Option X) → MatchOption r (length xs ≤ i) (λ x. (i < length xs) × (x ≡ get_or xs i x)) → r ≡ at i xs
-read-cases xs i None h = at-past xs i h
-read-cases xs i (Some x) h = at_read xs i x h.0 h.1
+pub read_cases : {X : Type 0} → (xs : List X) (i : ℕ) (r : Option X) → MatchOption r (length xs ≤ i) (λ x. (i < length xs) × (x ≡ get_or xs i x)) → r ≡ at i xs
+read_cases xs i None h = at_past xs i h
+read_cases xs i (Some x) h = at_read xs i x h.0 h.1
 
 -- one record on
-pub place-step :
+pub place_step :
     {X : Type 0} → (num : X → ℕ) (n i : ℕ) (xs : List X) (x : X) (b : Bool) →
     i < length xs → x ≡ get_or xs i x → eqb (num x) n ≡ b → place_of num n i (drop i xs) ≡ cond b (Some i) (place_of num n (i + 1) (drop (i + 1) xs))
-place-step num n i xs x b h e t =
+place_step num n i xs x b h e t =
     at_drop_more (place_of num n i) xs i x h
     ∙ ap (λ v. cond (eqb (num v) n) (Some i) (place_of num n (i + 1) (drop (i + 1) xs))) (sym e)
     ∙ ap (λ c. cond c (Some i) (place_of num n (i + 1) (drop (i + 1) xs))) t
@@ -86,18 +86,18 @@ replaced xs ys n i x b t e =
     ]
 
 -- what a push tells where there is room
-pub took-held : {X : Type 0} (b : Bool) (n m : ℕ) (xs ys zs : List X) → b ≡ ltb n m → n < m → xs ≡ cond b ys zs → xs ≡ ys
-took-held b n m xs ys zs e l h = h ∙ cond-true b ys zs (e ∙ lt-ltb n m l)
+pub took_held : {X : Type 0} (b : Bool) (n m : ℕ) (xs ys zs : List X) → b ≡ ltb n m → n < m → xs ≡ cond b ys zs → xs ≡ ys
+took_held b n m xs ys zs e l h = h ∙ cond-true b ys zs (e ∙ lt-ltb n m l)
 
 -- a search tells where the first element with a number stands, or that none does
-pub found-place : {X : Type 0} (num : X → ℕ) (n i : ℕ) (xs : List X) → MatchOption (place_of num n i xs) (first_with num n xs ≡ None) (λ j. (i ≤ j) × (first_with num n xs ≡ at (j - i) xs))
-found-place num n i [] = refl
-found-place num n i (x ∷ xs) =
+pub found_place : {X : Type 0} (num : X → ℕ) (n i : ℕ) (xs : List X) → MatchOption (place_of num n i xs) (first_with num n xs ≡ None) (λ j. (i ≤ j) × (first_with num n xs ≡ at (j - i) xs))
+found_place num n i [] = refl
+found_place num n i (x ∷ xs) =
     elim (cases_Bool (eqb (num x) n)) [
       | inl t ↦
           let z : i - i ≡ 0 = omega arith in
           rw (t, z) (omega arith, refl)
-      | inr f ↦ rw f (later (place_of num n (i + 1) xs) (found-place num n (i + 1) xs))
+      | inr f ↦ rw f (later (place_of num n (i + 1) xs) (found_place num n (i + 1) xs))
     ]
   where
     later : (o : Option ℕ) → MatchOption o (first_with num n xs ≡ None) (λ j. (i + 1 ≤ j) × (first_with num n xs ≡ at (j - (i + 1)) xs)) → MatchOption o (first_with num n xs ≡ None) (λ j. (i ≤ j) × (first_with num n xs ≡ at (j - i) (x ∷ xs)))
@@ -120,8 +120,8 @@ pub read_at : {X : Type 0} (xs : List X) (i : ℕ) (d : X) → i < length xs →
 read_at xs i d h = ap (λ o. unwrap_or o d) (at_drop_more first xs i d h)
 
 -- one number on
-pub among-step : (n i : ℕ) (xs : List ℕ) (v : ℕ) (b : Bool) → i < length xs → v ≡ unwrap_or (at i xs) 0 → eqb v n ≡ b → among n (drop i xs) ≡ cond b true (among n (drop (i + 1) xs))
-among-step n i xs v b h e t =
+pub among_step : (n i : ℕ) (xs : List ℕ) (v : ℕ) (b : Bool) → i < length xs → v ≡ unwrap_or (at i xs) 0 → eqb v n ≡ b → among n (drop i xs) ≡ cond b true (among n (drop (i + 1) xs))
+among_step n i xs v b h e t =
     at_drop_more (among n) xs i 0 h
     ∙ ap (λ k. cond (eqb k n) true (among n (drop (i + 1) xs))) (sym (e ∙ read_at xs i 0 h))
     ∙ ap (λ c. cond c true (among n (drop (i + 1) xs))) t

@@ -17,26 +17,26 @@ bounded most z e =
     let p = and_parts (le_z (neg_ℤ (pos most)) z) (le_z z (pos most)) e in
     record { low = omega (arith, ints, p.0); high = omega (arith, ints, p.1) }
 
-pub product-bounded : (a b : ℕ) (x y : ℤ) → Bounded a x → Bounded b y → Bounded (a * b) (x *ℤ y)
-product-bounded a b (pos m) (pos n) f g =
+pub product_bounded : (a b : ℕ) (x y : ℤ) → Bounded a x → Bounded b y → Bounded (a * b) (x *ℤ y)
+product_bounded a b (pos m) (pos n) f g =
     let q = mul-le m n a b (omega (arith, ints)) (omega (arith, ints)) in
     record { low = omega (arith, ints, q); high = omega (arith, ints, q) }
-product-bounded a b (pos m) (negsuc n) f g =
+product_bounded a b (pos m) (negsuc n) f g =
     let q = mul-le m (suc n) a b (omega (arith, ints)) (omega (arith, ints)) in
     record { low = omega (arith, ints, q); high = omega (arith, ints, q) }
-product-bounded a b (negsuc m) (pos n) f g =
+product_bounded a b (negsuc m) (pos n) f g =
     let q = mul-le (suc m) n a b (omega (arith, ints)) (omega (arith, ints)) in
     record { low = omega (arith, ints, q); high = omega (arith, ints, q) }
-product-bounded a b (negsuc m) (negsuc n) f g =
+product_bounded a b (negsuc m) (negsuc n) f g =
     let q = mul-le (suc m) (suc n) a b (omega (arith, ints)) (omega (arith, ints)) in
     record { low = omega (arith, ints, q); high = omega (arith, ints, q) }
 
 -- one more term of a sum
-pub sum-bounded : (k most : ℕ) (s p : ℤ) → Bounded (k * most) s → Bounded most p → Bounded ((k + 1) * most) (s +ℤ p)
-sum-bounded k most s p f g = record { low = omega (arith, ints); high = omega (arith, ints) }
+pub sum_bounded : (k most : ℕ) (s p : ℤ) → Bounded (k * most) s → Bounded most p → Bounded ((k + 1) * most) (s +ℤ p)
+sum_bounded k most s p f g = record { low = omega (arith, ints); high = omega (arith, ints) }
 
-pub bounded-fits : (most : ℕ) (z : ℤ) → most < 2 ^ 63 → Bounded most z → SFits w64 z
-bounded-fits most z l f = omega (arith, ints)
+pub bounded_fits : (most : ℕ) (z : ℤ) → most < 2 ^ 63 → Bounded most z → SFits w64 z
+bounded_fits most z l f = omega (arith, ints)
 
 -- What the code's `sum += x * y` computes, at 64 bits: the sum has the bits `bits` before.
 pub record Accumulated (bits : ℕ) (x y : ℤ) : Type 0 where
@@ -58,8 +58,8 @@ accumulated bits x y fx fy fp fs =
 pub turn : (k n most bits : ℕ) (x y : ℤ) → k < n → n * most < 2 ^ 63 → SFits w64 x → SFits w64 y → Bounded most (x *ℤ y) → Bounded (k * most) (to_z w64 bits) → Accumulated bits x y
 turn k n most bits x y l h fx fy p s =
     let m : (k + 1) * most ≤ n * most = mul-le (k + 1) most n most (omega arith) (omega arith) in
-    let a = sum-bounded k most (to_z w64 bits) (x *ℤ y) s p in
-    accumulated bits x y fx fy (bounded-fits most _ (omega arith) p) (bounded-fits ((k + 1) * most) _ (omega arith) a)
+    let a = sum_bounded k most (to_z w64 bits) (x *ℤ y) s p in
+    accumulated bits x y fx fy (bounded_fits most _ (omega arith) p) (bounded_fits ((k + 1) * most) _ (omega arith) a)
 
 -- The loop that adds up coefficient × value: after k columns, with products within `most`.
 pub record Summed (most : ℕ) (cs vs : List ℤ) (k : ℕ) (sum : ℤ) : Type 0 where
@@ -71,31 +71,31 @@ pub record DotTurn (most bits : ℕ) (cs vs : List ℤ) (k : ℕ) : Type 0 where
   pub step : Accumulated bits (get_or cs k (pos 0)) (get_or vs k (pos 0))
   pub again : Summed most cs vs (k + 1) (to_z w64 (of_z w64 (to_z w64 bits +ℤ to_z w64 (of_z w64 (to_z w64 (of_z w64 (get_or cs k (pos 0))) *ℤ to_z w64 (of_z w64 (get_or vs k (pos 0))))))))
 
-pub dot-turn : (n a b bits : ℕ) (cs vs : List ℤ) (k : ℕ) → n * (a * b) < 2 ^ 63 →
+pub dot_turn : (n a b bits : ℕ) (cs vs : List ℤ) (k : ℕ) → n * (a * b) < 2 ^ 63 →
     ((i : ℕ) → i < n → within a (get_or cs i (pos 0)) ≡ true) → ((i : ℕ) → i < n → within b (get_or vs i (pos 0)) ≡ true) →
     k < n → SFits w64 (get_or cs k (pos 0)) → SFits w64 (get_or vs k (pos 0)) → Summed (a * b) cs vs k (to_z w64 bits) → DotTurn (a * b) bits cs vs k
-dot-turn n a b bits cs vs k h ca vb l fx fy s =
-    let p = product-bounded a b (get_or cs k (pos 0)) (get_or vs k (pos 0)) (bounded a _ (ca k l)) (bounded b _ (vb k l)) in
+dot_turn n a b bits cs vs k h ca vb l fx fy s =
+    let p = product_bounded a b (get_or cs k (pos 0)) (get_or vs k (pos 0)) (bounded a _ (ca k l)) (bounded b _ (vb k l)) in
     let t = turn k n (a * b) bits _ _ l h fx fy p s.small in
     record {
       step = t;
       again = record {
         so_far = t.is ∙ ap (λ (z : ℤ). z +ℤ get_or cs k (pos 0) *ℤ get_or vs k (pos 0)) s.so_far ∙ rw add-one;
-        small = subst (Bounded ((k + 1) * (a * b))) (sym t.is) (sum-bounded k (a * b) _ _ s.small p);
+        small = subst (Bounded ((k + 1) * (a * b))) (sym t.is) (sum_bounded k (a * b) _ _ s.small p);
       };
     }
 
 -- the whole sum
-pub dot-bounded : (n a b : ℕ) (cs vs : List ℤ) → ((i : ℕ) → i < n → within a (get_or cs i (pos 0)) ≡ true) → ((i : ℕ) → i < n → within b (get_or vs i (pos 0)) ≡ true) → Bounded (n * (a * b)) (dot_to n cs vs)
-dot-bounded zero a b cs vs ca vb = record { low = omega (arith, ints); high = omega (arith, ints) }
-dot-bounded (suc k) a b cs vs ca vb =
-    let h = dot-bounded k a b cs vs (λ i l. ca i (omega arith)) (λ i l. vb i (omega arith)) in
-    let p = product-bounded a b (get_or cs k (pos 0)) (get_or vs k (pos 0)) (bounded a _ (ca k (omega arith))) (bounded b _ (vb k (omega arith))) in
-    rw (sym (add-one k)) (sum-bounded k (a * b) _ _ h p)
+pub dot_bounded : (n a b : ℕ) (cs vs : List ℤ) → ((i : ℕ) → i < n → within a (get_or cs i (pos 0)) ≡ true) → ((i : ℕ) → i < n → within b (get_or vs i (pos 0)) ≡ true) → Bounded (n * (a * b)) (dot_to n cs vs)
+dot_bounded zero a b cs vs ca vb = record { low = omega (arith, ints); high = omega (arith, ints) }
+dot_bounded (suc k) a b cs vs ca vb =
+    let h = dot_bounded k a b cs vs (λ i l. ca i (omega arith)) (λ i l. vb i (omega arith)) in
+    let p = product_bounded a b (get_or cs k (pos 0)) (get_or vs k (pos 0)) (bounded a _ (ca k (omega arith))) (bounded b _ (vb k (omega arith))) in
+    rw (sym (add-one k)) (sum_bounded k (a * b) _ _ h p)
 
 -- a bounded number as it is passed to a function, to its bits and back
-pub passed-bounded : (most more : ℕ) (z : ℤ) → most ≤ more → more < 2 ^ 63 → Bounded most z → (neg_ℤ (pos more) ≤ℤ to_z w64 (of_z w64 z)) × (to_z w64 (of_z w64 z) ≤ℤ pos more)
-passed-bounded most more z l h b =
+pub passed_bounded : (most more : ℕ) (z : ℤ) → most ≤ more → more < 2 ^ 63 → Bounded most z → (neg_ℤ (pos more) ≤ℤ to_z w64 (of_z w64 z)) × (to_z w64 (of_z w64 z) ≤ℤ pos more)
+passed_bounded most more z l h b =
     let lo = b.low in
     let hi = b.high in
     (omega (arith, ints, lo, hi), omega (arith, ints, lo, hi))

@@ -26,9 +26,9 @@ pub both : (first rest : Said) → (first and_then rest) ≡ Ok tt → (first �
 both (Ok tt) rest e = (refl, e)
 both (Err f) rest e = never f e
 
-pub check-true : (test : Bool) (f : Fault) → check test f ≡ Ok tt → test ≡ true
-check-true true f e = refl
-check-true false f e = never f e
+pub check_true : (test : Bool) (f : Fault) → check test f ≡ Ok tt → test ≡ true
+check_true true f e = refl
+check_true false f e = never f e
 
 pub found_none : (kind : FaultKind) (o : Option ℕ) → unless_found kind o ≡ Ok tt → o ≡ None
 found_none kind None e = refl
@@ -40,15 +40,15 @@ either (Ok tt) rest f e g h = h e
 either (Err x) rest f e g h = g e
 
 -- where the fault of a test stands that names no place
-pub check-place : (test : Bool) (k : FaultKind) (i : ℕ) (f : Fault) → check test (fault_of k 0 0 i) ≡ Err f → f.place ≡ 0
-check-place true k i f e = never f (sym e)
-check-place false k i f e = let s : fault_of k 0 0 i ≡ f = cc in sym (ap (λ (x : Fault). x.place) s)
+pub check_place : (test : Bool) (k : FaultKind) (i : ℕ) (f : Fault) → check test (fault_of k 0 0 i) ≡ Err f → f.place ≡ 0
+check_place true k i f e = never f (sym e)
+check_place false k i f e = let s : fault_of k 0 0 i ≡ f = cc in sym (ap (λ (x : Fault). x.place) s)
 
-pub found-place : (k : FaultKind) (o : Option ℕ) (f : Fault) → unless_found k o ≡ Err f → f.place ≡ 0
-found-place k None f e = never f (sym e)
-found-place k (Some i) f e = let s : fault_of k 0 0 i ≡ f = cc in sym (ap (λ (x : Fault). x.place) s)
+pub found_place : (k : FaultKind) (o : Option ℕ) (f : Fault) → unless_found k o ≡ Err f → f.place ≡ 0
+found_place k None f e = never f (sym e)
+found_place k (Some i) f e = let s : fault_of k 0 0 i ≡ f = cc in sym (ap (λ (x : Fault). x.place) s)
 
 -- a fault of a chain that begins with such a test
-pub check-first : {G : Type 0} (test : Bool) (k : FaultKind) (i : ℕ) (rest : Said) (f : Fault) → (check test (fault_of k 0 0 i) and_then rest) ≡ Err f → (f.place ≡ 0 → G) → (test ≡ true → rest ≡ Err f → G) → G
-check-first true k i rest f e z r = r refl e
-check-first false k i rest f e z r = z (check-place false k i f e)
+pub check_first : {G : Type 0} (test : Bool) (k : FaultKind) (i : ℕ) (rest : Said) (f : Fault) → (check test (fault_of k 0 0 i) and_then rest) ≡ Err f → (f.place ≡ 0 → G) → (test ≡ true → rest ≡ Err f → G) → G
+check_first true k i rest f e z r = r refl e
+check_first false k i rest f e z r = z (check_place false k i f e)

@@ -23,25 +23,25 @@ some_first test (suc n) i l e h =
       | inr s ↦ let a = some_first test n i (omega arith) e h in rw a
     ]
 
-pub is-first : (test : ℕ → Bool) (n : ℕ) (r : Option ℕ) → IsFirst test n r → r ≡ first_below test n
-is-first test n None h = sym (none_first test n h)
-is-first test n (Some i) h = sym (some_first test n i h.0 h.1 h.2)
+pub is_first : (test : ℕ → Bool) (n : ℕ) (r : Option ℕ) → IsFirst test n r → r ≡ first_below test n
+is_first test n None h = sym (none_first test n h)
+is_first test n (Some i) h = sym (some_first test n i h.0 h.1 h.2)
 
 -- a loop's end: what holds below the counter holds below the count
-pub none-at : (test : ℕ → Bool) (n k : ℕ) → n ≤ k → NoneBelow test k → NoneBelow test n
-none-at test n k l h i m = h i (omega arith)
+pub none_at : (test : ℕ → Bool) (n k : ℕ) → n ≤ k → NoneBelow test k → NoneBelow test n
+none_at test n k l h i m = h i (omega arith)
 
 -- no first: none passes
-pub first-none : (test : ℕ → Bool) (n : ℕ) → first_below test n ≡ None → NoneBelow test n
-first-none test zero e k l = absurd (omega arith)
-first-none test (suc n) e k l =
-    let p = or-none (first_below test n) (test n) n e in
-    elim (cases_eq k n) [ inl s ↦ ap test s ∙ p.1 | inr s ↦ first-none test n p.0 k (omega arith) ]
+pub first_none : (test : ℕ → Bool) (n : ℕ) → first_below test n ≡ None → NoneBelow test n
+first_none test zero e k l = absurd (omega arith)
+first_none test (suc n) e k l =
+    let p = or_none (first_below test n) (test n) n e in
+    elim (cases_eq k n) [ inl s ↦ ap test s ∙ p.1 | inr s ↦ first_none test n p.0 k (omega arith) ]
   where
-    or-none : (o : Option ℕ) (b : Bool) (m : ℕ) → or_else o (cond b (Some m) None) ≡ None → (o ≡ None) × (b ≡ false)
-    or-none None true m h = let z : ◌≡◌ {A = ℕ} 0 1 = cc in absurd (omega arith)
-    or-none None false m h = (refl, refl)
-    or-none (Some i) b m h = let z : ◌≡◌ {A = ℕ} 0 1 = cc in absurd (omega arith)
+    or_none : (o : Option ℕ) (b : Bool) (m : ℕ) → or_else o (cond b (Some m) None) ≡ None → (o ≡ None) × (b ≡ false)
+    or_none None true m h = let z : ◌≡◌ {A = ℕ} 0 1 = cc in absurd (omega arith)
+    or_none None false m h = (refl, refl)
+    or_none (Some i) b m h = let z : ◌≡◌ {A = ℕ} 0 1 = cc in absurd (omega arith)
 
 -- a first is one of the numbers below
 pub first_some : (test : ℕ → Bool) (n i : ℕ) → first_below test n ≡ Some i → i < n

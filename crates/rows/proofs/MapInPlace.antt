@@ -11,8 +11,8 @@ module _ {X : Type 0} (f : X → X) (xs ys : List X) (i : ℕ) where
       let z : i + (i - i) ≡ i = omega arith in
       ap (λ zs. get_or zs i d) e ∙ get_or-append_right (map f (take i xs)) (drop i xs) i i d n (omega arith) ∙ get_or-drop i xs (i - i) d ∙ ap (λ k. get_or xs k d) z
 
-  pub written-more : (d v : X) → i < length xs → ys ≡ map f (take i xs) ++ drop i xs → v ≡ f (get_or xs i d) → set ys i v ≡ map f (take (i + 1) xs) ++ drop (i + 1) xs
-  written-more d v l e h =
+  pub written_more : (d v : X) → i < length xs → ys ≡ map f (take i xs) ++ drop i xs → v ≡ f (get_or xs i d) → set ys i v ≡ map f (take (i + 1) xs) ++ drop (i + 1) xs
+  written_more d v l e h =
       ap (set ys i) h ∙ map_over_more f xs ys i (get_or xs i d) l e (sym (untouched (get_or xs i d) l e ∙ same l))
     where
       same : i < length xs → get_or xs i (get_or xs i d) ≡ get_or xs i d

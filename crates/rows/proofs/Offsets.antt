@@ -5,15 +5,15 @@ use Rattle.std.proofs.lemmas.Bool.{cases_lt}
 use Rattle.rows.specs.Bytes.{word_at}
 
 module _ (bytes : List ℕ) (at n : ℕ) (short : length bytes < 2 ^ 64) where
-  pub byte-capped : get_or bytes (min (at + n) (2 ^ 64 - 1)) 0 ≡ get_or bytes (at + n) 0
-  byte-capped =
+  pub byte_capped : get_or bytes (min (at + n) (2 ^ 64 - 1)) 0 ≡ get_or bytes (at + n) 0
+  byte_capped =
       elim (cases_lt (at + n) (2 ^ 64)) [
         | inl l ↦ ap (λ (k : ℕ). get_or bytes k 0) (omega arith)
         | inr l ↦ get_or_past bytes (min (at + n) (2 ^ 64 - 1)) 0 (omega arith) ∙ sym (get_or_past bytes (at + n) 0 (omega arith))
       ]
 
-  pub word-capped : word_at bytes (min (at + n) (2 ^ 64 - 1)) ≡ word_at bytes (at + n)
-  word-capped =
+  pub word_capped : word_at bytes (min (at + n) (2 ^ 64 - 1)) ≡ word_at bytes (at + n)
+  word_capped =
       elim (cases_lt (at + n) (2 ^ 64)) [
         | inl l ↦ ap (word_at bytes) (omega arith)
         | inr l ↦

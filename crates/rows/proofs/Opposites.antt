@@ -8,7 +8,7 @@ use Rattle.rows.specs.declared.numbers.Numbers.{Numbers}
 use Rattle.rows.specs.Limits.{columns, within}
 use Rattle.rows.specs.Shapes.{Within, dot_to, dot, opposite_of}
 use Rattle.rows.specs.WrittenMade.{TurnsRound}
-use Rattle.rows.proofs.Items.{item-column, item-bound}
+use Rattle.rows.proofs.Items.{item_column, item_bound}
 use Rattle.rows.proofs.Bounds.{bounded}
 
 get_or-neg : (cs : List ℤ) (k : ℕ) → get_or (map neg_ℤ cs) k (pos 0) ≡ neg_ℤ (get_or cs k (pos 0))
@@ -16,8 +16,8 @@ get_or-neg [] k = refl
 get_or-neg (c ∷ cs) zero = refl
 get_or-neg (c ∷ cs) (suc k) = get_or-neg cs k
 
-neg-product : (a b : ℤ) → neg_ℤ a *ℤ b ≡ neg_ℤ (a *ℤ b)
-neg-product a b =
+neg_product : (a b : ℤ) → neg_ℤ a *ℤ b ≡ neg_ℤ (a *ℤ b)
+neg_product a b =
     let n = neg_is a in
     let u = ap (λ (x : ℕ). x * up b) n.0 in
     let v = ap (λ (x : ℕ). x * down b) n.0 in
@@ -28,12 +28,12 @@ neg-product a b =
 neg_sum : (a b : ℤ) → neg_ℤ a +ℤ neg_ℤ b ≡ neg_ℤ (a +ℤ b)
 neg_sum a b = omega (arith, ints)
 
-dot-neg : (n : ℕ) (cs vs : List ℤ) → dot_to n (map neg_ℤ cs) vs ≡ neg_ℤ (dot_to n cs vs)
-dot-neg zero cs vs = refl
-dot-neg (suc k) cs vs =
-    ap (λ (z : ℤ). z +ℤ get_or (map neg_ℤ cs) k (pos 0) *ℤ get_or vs k (pos 0)) (dot-neg k cs vs)
+dot_neg : (n : ℕ) (cs vs : List ℤ) → dot_to n (map neg_ℤ cs) vs ≡ neg_ℤ (dot_to n cs vs)
+dot_neg zero cs vs = refl
+dot_neg (suc k) cs vs =
+    ap (λ (z : ℤ). z +ℤ get_or (map neg_ℤ cs) k (pos 0) *ℤ get_or vs k (pos 0)) (dot_neg k cs vs)
     ∙ ap (λ (z : ℤ). neg_ℤ (dot_to k cs vs) +ℤ z *ℤ get_or vs k (pos 0)) (get_or-neg cs k)
-    ∙ ap (λ (z : ℤ). neg_ℤ (dot_to k cs vs) +ℤ z) (neg-product (get_or cs k (pos 0)) (get_or vs k (pos 0)))
+    ∙ ap (λ (z : ℤ). neg_ℤ (dot_to k cs vs) +ℤ z) (neg_product (get_or cs k (pos 0)) (get_or vs k (pos 0)))
     ∙ neg_sum (dot_to k cs vs) (get_or cs k (pos 0) *ℤ get_or vs k (pos 0))
 
 by-int_le : {P : Type 0} (a b : ℤ) → (a ≤ℤ b → P) → (b <ℤ a → P) → P
@@ -42,35 +42,35 @@ by-int_le a b f g = by_lt_z b a g f
 never_both : (s b : ℤ) → s ≤ℤ b → neg_ℤ s ≤ℤ (neg_ℤ b -ℤ pos 1) → ⊥
 never_both s b h k = omega (arith, ints)
 
-always-one : (s b : ℤ) → (s ≤ℤ b → ⊥) → neg_ℤ s ≤ℤ (neg_ℤ b -ℤ pos 1)
-always-one s b h = by-int_le s b (λ m. absurd (h m)) (λ l. omega (arith, ints))
+always_one : (s b : ℤ) → (s ≤ℤ b → ⊥) → neg_ℤ s ≤ℤ (neg_ℤ b -ℤ pos 1)
+always_one s b h = by-int_le s b (λ m. absurd (h m)) (λ l. omega (arith, ints))
 
-pub opposite-turns : (row : Numbers) → TurnsRound row (opposite_of row)
+pub opposite_turns : (row : Numbers) → TurnsRound row (opposite_of row)
 unfolding dot
-opposite-turns row =
+opposite_turns row =
     record {
-      not-both = λ point m o. never_both _ _ m (subst (λ (z : ℤ). z ≤ℤ (neg_ℤ row.bound -ℤ pos 1)) (dot-neg columns row.coefficients point) o);
-      one = λ point n. subst (λ (z : ℤ). z ≤ℤ (neg_ℤ row.bound -ℤ pos 1)) (sym (dot-neg columns row.coefficients point)) (always-one _ _ n);
+      not_both = λ point m o. never_both _ _ m (subst (λ (z : ℤ). z ≤ℤ (neg_ℤ row.bound -ℤ pos 1)) (dot_neg columns row.coefficients point) o);
+      one = λ point n. subst (λ (z : ℤ). z ≤ℤ (neg_ℤ row.bound -ℤ pos 1)) (sym (dot_neg columns row.coefficients point)) (always_one _ _ n);
     }
 
 -- a number turned round, and one less, lies within a limit that is larger by one
-pub within-neg : (most more : ℕ) (z : ℤ) → most + 1 ≤ more → within most z ≡ true → within more (neg_ℤ z) ≡ true
-within-neg most more z l e =
+pub within_neg : (most more : ℕ) (z : ℤ) → most + 1 ≤ more → within most z ≡ true → within more (neg_ℤ z) ≡ true
+within_neg most more z l e =
     let b = bounded most z e in
     and_from (le_z (neg_ℤ (pos more)) (neg_ℤ z)) (le_z (neg_ℤ z) (pos more)) (grind (arith, ints)) (grind (arith, ints))
 
-pub within-less : (most more : ℕ) (z : ℤ) → most + 1 ≤ more → within most z ≡ true → within more (neg_ℤ z -ℤ pos 1) ≡ true
-within-less most more z l e =
+pub within_less : (most more : ℕ) (z : ℤ) → most + 1 ≤ more → within most z ≡ true → within more (neg_ℤ z -ℤ pos 1) ≡ true
+within_less most more z l e =
     let b = bounded most z e in
     and_from (le_z (neg_ℤ (pos more)) (neg_ℤ z -ℤ pos 1)) (le_z (neg_ℤ z -ℤ pos 1) (pos more)) (grind (arith, ints)) (grind (arith, ints))
 
 -- every number of the opposite of a row
-pub opposite-within : (most more : ℕ) (row : Numbers) → most + 1 ≤ more → Within most row → Within more (opposite_of row)
-opposite-within most more row l w k h =
+pub opposite_within : (most more : ℕ) (row : Numbers) → most + 1 ≤ more → Within most row → Within more (opposite_of row)
+opposite_within most more row l w k h =
     elim (cases_lt k columns) [
       | inl below ↦
-          let i = item-column (opposite_of row) k below ∙ get_or-neg row.coefficients k in
-          ap (within more) i ∙ within-neg most more _ l (sym (ap (within most) (item-column row k below)) ∙ w k h)
+          let i = item_column (opposite_of row) k below ∙ get_or-neg row.coefficients k in
+          ap (within more) i ∙ within_neg most more _ l (sym (ap (within most) (item_column row k below)) ∙ w k h)
       | inr past ↦
-          ap (within more) (item-bound (opposite_of row) k past) ∙ within-less most more _ l (sym (ap (within most) (item-bound row k past)) ∙ w k h)
+          ap (within more) (item_bound (opposite_of row) k past) ∙ within_less most more _ l (sym (ap (within most) (item_bound row k past)) ∙ w k h)
     ]

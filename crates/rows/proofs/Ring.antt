@@ -32,11 +32,11 @@ pub *ℤ-+ℤ : (m : ℤ) (a b : ℤ) → m *ℤ (a +ℤ b) ≡ m *ℤ a +ℤ m 
     let v = ap (λ (n : ℕ). down m * n) s in
     omega (arith, ints, u, v)
 
-pub times-le : (m : ℕ) (a b : ℤ) → a ≤ℤ b → (pos m *ℤ a) ≤ℤ (pos m *ℤ b)
-times-le m a b h = let p = mul-le-mul_left m (le_out a b h) in omega (arith, ints, p)
+pub times_le : (m : ℕ) (a b : ℤ) → a ≤ℤ b → (pos m *ℤ a) ≤ℤ (pos m *ℤ b)
+times_le m a b h = let p = mul-le-mul_left m (le_out a b h) in omega (arith, ints, p)
 
-pub times-cancel : (m : ℕ) (a b : ℤ) → 0 < m → (pos m *ℤ a) ≤ℤ (pos m *ℤ b) → a ≤ℤ b
-times-cancel m a b l h =
+pub times_cancel : (m : ℕ) (a b : ℤ) → 0 < m → (pos m *ℤ a) ≤ℤ (pos m *ℤ b) → a ≤ℤ b
+times_cancel m a b l h =
     let p : m * (up a + down b) ≤ m * (up b + down a) = omega (arith, ints, le_out (pos m *ℤ a) (pos m *ℤ b) h) in
     let q = le_of_mul-le-mul_left {m = up a + down b} {n = up b + down a} {k = m} p l in
     omega (arith, ints, q)

@@ -13,5 +13,5 @@ WrittenFrom numbers (Err item) = FirstOver (magnitude_of WrittenNumber) numbers 
 
 -- at every point of whole numbers exactly one of the two rows is met
 pub record TurnsRound (row other : Numbers) : Type 0 where
-  pub not-both : (point : List ℤ) → Meets point row → Meets point other → ⊥
+  pub not_both : (point : List ℤ) → Meets point row → Meets point other → ⊥
   pub one : (point : List ℤ) → (Meets point row → ⊥) → Meets point other

@@ -7,23 +7,23 @@ use Rattle.semantics.specs.Samples.{exchanging, sample_place, sample_inner, samp
 use Rattle.semantics.specs.Runs.{Declared}
 
 -- the fourth transition is not inner
-fourth-outside : (i : InnerData) → Declared sample_witness 4 i → ⊥
-fourth-outside i (inl e, n) = let k : 1 ≡ 4 = ap (λ x. x.number) e ∙ n in absurd (omega (arith, k))
-fourth-outside i (inr (inl e), n) = let k : 2 ≡ 4 = ap (λ x. x.number) e ∙ n in absurd (omega (arith, k))
-fourth-outside i (inr (inr (inl e)), n) = let k : 3 ≡ 4 = ap (λ x. x.number) e ∙ n in absurd (omega (arith, k))
-fourth-outside i (inr (inr (inr m)), n) = absurd m
+fourth_outside : (i : InnerData) → Declared sample_witness 4 i → ⊥
+fourth_outside i (inl e, n) = let k : 1 ≡ 4 = ap (λ x. x.number) e ∙ n in absurd (omega (arith, k))
+fourth_outside i (inr (inl e), n) = let k : 2 ≡ 4 = ap (λ x. x.number) e ∙ n in absurd (omega (arith, k))
+fourth_outside i (inr (inr (inl e)), n) = let k : 3 ≡ 4 = ap (λ x. x.number) e ∙ n in absurd (omega (arith, k))
+fourth_outside i (inr (inr (inr m)), n) = absurd m
 
-pub steps-worked : WorkedSteps
+pub steps_worked_lem : WorkedSteps
 unfolding dot question_of
-steps-worked =
+steps_worked_lem =
     record {
       exchanged = refl;
-      first-met = refl;
-      second-met = refl;
-      none-met = refl;
-      first-asked = refl;
-      second-asked = refl;
-      last-asked = refl;
-      exit = (_, _, record { taken = exchanging 4; from = sample_place; known = (inr (inr (inr (inl refl))), refl); not-inner = fourth-outside; from-listed = (inl refl, refl); facts-are = refl; goal-is = refl });
-      no-exit = λ x. x.2.not-inner (sample_inner 1) (inl refl, refl);
+      first_met = refl;
+      second_met = refl;
+      none_met = refl;
+      first_asked = refl;
+      second_asked = refl;
+      last_asked = refl;
+      exit = (_, _, record { taken = exchanging 4; from = sample_place; known = (inr (inr (inr (inl refl))), refl); not_inner = fourth_outside; from_listed = (inl refl, refl); facts_are = refl; goal_is = refl });
+      no_exit = λ x. x.2.not_inner (sample_inner 1) (inl refl, refl);
     }

@@ -12,38 +12,38 @@ use Rattle.formats.specs.Valid.{StoredRow}
 use Rattle.semantics.specs.Goals.{impossible}
 use Rattle.semantics.specs.Laws.{FactsAdd}
 use Rattle.semantics.specs.Vectors.{point_of, at_rest, Holds}
-use Rattle.semantics.proofs.Members.{all-member, all-from-members}
-use Rattle.semantics.proofs.Points.{dot-zeros, values_part, choices_part, dot-point, dot-rest}
-use Rattle.semantics.proofs.Sums.{sum_same, sum-zero}
+use Rattle.semantics.proofs.Members.{all_member, all_from_members}
+use Rattle.semantics.proofs.Points.{dot_zeros, values_part, choices_part, dot_point, dot_rest}
+use Rattle.semantics.proofs.Sums.{sum_same, sum_zero}
 
 -- a row over the values
 module _ (shape : Shape) (row : Numbers) (stored : StoredRow (over_values shape) row) (state choices : List ℤ) (sized : length state ≡ most_values) where
-  choices-nothing : choices_part row.coefficients choices ≡ pos 0
-  choices-nothing =
-      sum_same most_choices _ (λ l. pos 0) (λ l h. ap (λ (z : ℤ). z *ℤ get_or choices l (pos 0)) (stored.other-choices (most_values + l) (omega arith) (omega arith)) ∙ zero-*ℤ (get_or choices l (pos 0)))
-      ∙ sum-zero most_choices
+  choices_nothing : choices_part row.coefficients choices ≡ pos 0
+  choices_nothing =
+      sum_same most_choices _ (λ l. pos 0) (λ l h. ap (λ (z : ℤ). z *ℤ get_or choices l (pos 0)) (stored.other_choices (most_values + l) (omega arith) (omega arith)) ∙ zero-*ℤ (get_or choices l (pos 0)))
+      ∙ sum_zero most_choices
 
   same_sum : dot row.coefficients (point_of state choices) ≡ dot row.coefficients (at_rest state)
   same_sum =
-      dot-point row.coefficients state choices sized
-      ∙ ap (λ (z : ℤ). values_part row.coefficients state +ℤ z) choices-nothing
+      dot_point row.coefficients state choices sized
+      ∙ ap (λ (z : ℤ). values_part row.coefficients state +ℤ z) choices_nothing
       ∙ +ℤ_idr (values_part row.coefficients state)
-      ∙ sym (dot-rest row.coefficients state sized)
+      ∙ sym (dot_rest row.coefficients state sized)
 
-  pub meets-with : Meets (at_rest state) row → Meets (point_of state choices) row
-  meets-with m = subst (λ (z : ℤ). z ≤ℤ row.bound) (sym same_sum) m
+  pub meets_with : Meets (at_rest state) row → Meets (point_of state choices) row
+  meets_with m = subst (λ (z : ℤ). z ≤ℤ row.bound) (sym same_sum) m
 
 -- rows that a state meets are met with any choices
-pub holds-with :
+pub holds_with :
     (shape : Shape) (rows : List Numbers) → AllByRecursion (StoredRow (over_values shape)) rows → (state choices : List ℤ) → length state ≡ most_values → Holds state rows → MeetsAll (point_of state choices) rows
-holds-with shape rows stored state choices sized met =
-    all-from-members (Meets (point_of state choices)) rows
-    (λ row m. meets-with shape row (all-member (StoredRow (over_values shape)) rows row stored m) state choices sized (all-member (Meets (at_rest state)) rows row met m))
+holds_with shape rows stored state choices sized met =
+    all_from_members (Meets (point_of state choices)) rows
+    (λ row m. meets_with shape row (all_member (StoredRow (over_values shape)) rows row stored m) state choices sized (all_member (Meets (at_rest state)) rows row met m))
 
 -- no point meets the impossible row
 pub never_met : (point : List ℤ) → Meets point impossible → ⊥
-never_met point m = let e = dot-zeros point in omega (arith, ints, e)
+never_met point m = let e = dot_zeros point in omega (arith, ints, e)
 
 -- what follows from facts follows from more of them
-pub follows-more : FactsAdd
-follows-more facts more goal f among point met = f point (all-from-members (Meets point) facts (λ fact m. all-member (Meets point) more fact met (among fact m)))
+pub follows_more : FactsAdd
+follows_more facts more goal f among point met = f point (all_from_members (Meets point) facts (λ fact m. all_member (Meets point) more fact met (among fact m)))

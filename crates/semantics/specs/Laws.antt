@@ -15,8 +15,8 @@ use Rattle.semantics.specs.Vectors.{Holds, at_rest, point_of}
 
 -- a table, and a witness that fits it
 pub record Fitting (table : TableData) (witness : WitnessData) : Type 0 where
-  pub valid-table : ValidTable table
-  pub valid-witness : ValidWitness table.transitions (shape_of table.heading) witness
+  pub valid_table : ValidTable table
+  pub valid_witness : ValidWitness table.transitions (shape_of table.heading) witness
 
 -- the goal is met before the transition exactly where the row is met after it
 pub record UpdateGoal (t : TransitionData) (row goal : Numbers) : Type 0 where
@@ -61,7 +61,7 @@ pub record Sustained (table : TableData) (witness : WitnessData) : Type 0 where
 
 -- the plan's run of n steps, and that the run of one step more is that run and a step
 pub record PlanRun (table : TableData) (witness : WitnessData) (place : ℕ) (state : List ℤ) (n : ℕ) : Type 0 where
-  pub is-run : RunOn table place state (plan_run table witness place state n)
+  pub is_run : RunOn table place state (plan_run table witness place state n)
   pub counted : step_count (plan_run table witness place state n) ≡ n
   pub inner : EachStep (IsInner witness) (plan_run table witness place state n)
   pub keeps : Keeps witness (plan_run table witness place state n)

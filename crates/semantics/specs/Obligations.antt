@@ -31,11 +31,11 @@ pub record Consecutive (table : TableData) (witness : WitnessData) (n r : ℕ) (
   pub row : Numbers
   pub known : Known table n taken
   pub declared : Declared witness n inner
-  pub from-listed : Listed witness taken.start from
-  pub into-listed : Listed witness taken.target into
+  pub from_listed : Listed witness taken.start from
+  pub into_listed : Listed witness taken.target into
   pub row_is : RowIs into.condition r row
-  pub facts-are : facts ≡ from.condition ++ (taken.guard ++ inner.restrictions)
-  pub goal-is : goal ≡ after_update taken row
+  pub facts_are : facts ≡ from.condition ++ (taken.guard ++ inner.restrictions)
+  pub goal_is : goal ≡ after_update taken row
 
 -- R: the choices of the witness meet a row of the restriction; the restriction is not among the facts
 pub record Restricted (table : TableData) (witness : WitnessData) (n r : ℕ) (facts : List Numbers) (goal : Numbers) : Type 0 where
@@ -45,10 +45,10 @@ pub record Restricted (table : TableData) (witness : WitnessData) (n r : ℕ) (f
   pub row : Numbers
   pub known : Known table n taken
   pub declared : Declared witness n inner
-  pub from-listed : Listed witness taken.start from
+  pub from_listed : Listed witness taken.start from
   pub row_is : RowIs inner.restrictions r row
-  pub facts-are : facts ≡ from.condition ++ taken.guard
-  pub goal-is : goal ≡ with_choices inner row
+  pub facts_are : facts ≡ from.condition ++ taken.guard
+  pub goal_is : goal ≡ with_choices inner row
 
 -- the transition that an entry of a plan names, and what holds where the plan takes the entry: none of the tests before
 -- it is met, and its own is. The last entry has no test.
@@ -65,21 +65,21 @@ pub record Guarded (table : TableData) (witness : WitnessData) (place e r : ℕ)
   pub number : ℕ
   pub reached : List Numbers
   pub taken : TransitionData
-  pub from-listed : Listed witness place from
+  pub from_listed : Listed witness place from
   pub entry : Entry from e number reached
   pub known : Known table number taken
   pub row_is : RowIs taken.guard r goal
-  pub facts-are : facts ≡ from.condition ++ reached
+  pub facts_are : facts ≡ from.condition ++ reached
 
 -- X: a transition from a listed place that is not inner cannot be taken where the condition holds
 pub record Closed (table : TableData) (witness : WitnessData) (n : ℕ) (facts : List Numbers) (goal : Numbers) : Type 0 where
   pub taken : TransitionData
   pub from : PlaceData
   pub known : Known table n taken
-  pub not-inner : (i : InnerData) → Declared witness n i → ⊥
-  pub from-listed : Listed witness taken.start from
-  pub facts-are : facts ≡ from.condition ++ taken.guard
-  pub goal-is : goal ≡ impossible
+  pub not_inner : (i : InnerData) → Declared witness n i → ⊥
+  pub from_listed : Listed witness taken.start from
+  pub facts_are : facts ≡ from.condition ++ taken.guard
+  pub goal_is : goal ≡ impossible
 
 -- the table and the witness pose the obligation, with these facts and this goal
 abbrev pub Poses : TableData → WitnessData → Obligation → List Numbers → Numbers → Type 0

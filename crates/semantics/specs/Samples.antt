@@ -57,13 +57,13 @@ pub record WorkedSteps : Type 0 where
   -- both new values come from the old ones
   pub exchanged : updated (exchanging 1) (at_rest (state_of (pos 1) (pos 2))) ≡ state_of (pos 2) (pos 1)
   -- where both tests are met the first counts, then the second, then the last entry
-  pub first-met : planned_at sample_place (state_of (pos 5) (pos 0)) ≡ 1
-  pub second-met : planned_at sample_place (state_of (pos 6) (pos 0)) ≡ 2
-  pub none-met : planned_at sample_place (state_of (pos 10) (pos 0)) ≡ 3
+  pub first_met : planned_at sample_place (state_of (pos 5) (pos 0)) ≡ 1
+  pub second_met : planned_at sample_place (state_of (pos 6) (pos 0)) ≡ 2
+  pub none_met : planned_at sample_place (state_of (pos 10) (pos 0)) ≡ 3
   -- the facts of a guard obligation: the condition, the opposites of the tests before, and the entry's own test
-  pub first-asked : question_of sample_table sample_witness (Guard 1 0 0) ≡ Some (posed (not_negative ∷ at_most_five ∷ []) not_negative)
-  pub second-asked : question_of sample_table sample_witness (Guard 1 1 0) ≡ Some (posed (not_negative ∷ at_least_six ∷ at_most_nine ∷ []) not_negative)
-  pub last-asked : question_of sample_table sample_witness (Guard 1 2 0) ≡ Some (posed (not_negative ∷ at_least_six ∷ at_least_ten ∷ []) not_negative)
+  pub first_asked : question_of sample_table sample_witness (Guard 1 0 0) ≡ Some (posed (not_negative ∷ at_most_five ∷ []) not_negative)
+  pub second_asked : question_of sample_table sample_witness (Guard 1 1 0) ≡ Some (posed (not_negative ∷ at_least_six ∷ at_most_nine ∷ []) not_negative)
+  pub last_asked : question_of sample_table sample_witness (Guard 1 2 0) ≡ Some (posed (not_negative ∷ at_least_six ∷ at_least_ten ∷ []) not_negative)
   -- a transition that is not inner has an exit obligation, one that is inner has none
   pub exit : ObligationOf sample_table sample_witness (Exit 4)
-  pub no-exit : ObligationOf sample_table sample_witness (Exit 1) → ⊥
+  pub no_exit : ObligationOf sample_table sample_witness (Exit 1) → ⊥

@@ -18,7 +18,7 @@ enough r n x none all =
     omega (arith, whole, ap length none, ap length all, length-replicate n x)
 
 -- with room enough a witness is judged by its bytes alone
-pub admit-roomy : (p i : ℕ) (transitions : List TransitionData) (shape : Shape) (bytes : List ℕ) → most_places ≤ p → most_inners ≤ i → admit_says p i transitions shape bytes ≡ witness_says transitions shape bytes
-admit-roomy p i transitions shape bytes h k =
+pub admit_roomy : (p i : ℕ) (transitions : List TransitionData) (shape : Shape) (bytes : List ℕ) → most_places ≤ p → most_inners ≤ i → admit_says p i transitions shape bytes ≡ witness_says transitions shape bytes
+admit_roomy p i transitions shape bytes h k =
     ap (λ (m : Said). m and_then witness_says transitions shape bytes)
     (sym (checked _ _ (and_from (leb most_places p) (leb most_inners i) (le-leb most_places p h) (le-leb most_inners i k))))

@@ -15,14 +15,14 @@ use Rattle.tables.specs.Short.{table_short, witness_short, heading_short, regist
 counted : {T X : Type 0} (plain : T → X) (ts : List T) (xs : List X) (n : ℕ) → map plain ts ≡ xs → n ≡ length ts → n ≡ length xs
 counted plain ts xs n e h = h ∙ sym (length-map ts plain) ∙ ap length e
 
-pub table-short : (h : Heading) (ts : List Transition) (t : TableData) (n : ℕ) → heading_of h ≡ t.heading → map transition_of ts ≡ t.transitions → n ≡ length ts → heading_short h n ≡ table_short t
-table-short h ts t n e m hn =
+pub table_short_lem : (h : Heading) (ts : List Transition) (t : TableData) (n : ℕ) → heading_of h ≡ t.heading → map transition_of ts ≡ t.transitions → n ≡ length ts → heading_short h n ≡ table_short t
+table_short_lem h ts t n e m hn =
     let rows = counted row_of (listed h.initial) t.heading.initial _ (ap (λ (d : HeadingData). d.initial) e) refl in
     let count = counted transition_of ts t.transitions n m hn in
     λ j. record { values = (e j).values; choices = (e j).choices; start = (e j).start; initial = rows j; transitions = count j }
 
-pub witness-short : (places : Register Place) (inners : Register Inner) (w : WitnessData) → map place_record_of (held places) ≡ w.places → map inner_of (held inners) ≡ w.inners → registers_short places inners ≡ witness_short w
-witness-short places inners w e m =
+pub witness_short_lem : (places : Register Place) (inners : Register Inner) (w : WitnessData) → map place_record_of (held places) ≡ w.places → map inner_of (held inners) ≡ w.inners → registers_short places inners ≡ witness_short w
+witness_short_lem places inners w e m =
     let p = counted place_record_of (held places) w.places _ e refl in
     let i = counted inner_of (held inners) w.inners _ m refl in
     λ j. record { places = p j; inners = i j }

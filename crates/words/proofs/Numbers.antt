@@ -11,24 +11,24 @@ use Rattle.words.specs.declared.errors.LineError.{LineError}
 use Rattle.words.specs.declared.errors.LineError.TheVariants.{NotANumber, NumberTooLarge, TooManyWords, TooFewWords}
 use Rattle.words.specs.Numerals.{whole_of, fits64, in_range, number_of}
 use Rattle.words.specs.Arguments.{and_then, rest_of, ended, first_number, numbers_after, shape, nine_numbers, items_of, Nine, NumbersRead}
-use Rattle.words.proofs.Decimal.{decimals-read}
-use Rattle.words.proofs.Reading.{numbers_more, nine-ok, shape_is}
+use Rattle.words.proofs.Decimal.{decimals_read}
+use Rattle.words.proofs.Reading.{numbers_more, nine_ok, shape_is}
 
 -- numbers that are written are read again
-numbers-written : (done zs : List ℤ) → AllByRecursion (λ z. mag z < 2 ^ 63) zs → numbers_after done (length zs) (map signed_decimal zs) ≡ Ok (done ++ zs)
-numbers-written done [] h = ap Ok (sym (append-nil done))
-numbers-written done (z ∷ zs) h =
-    numbers_more done (length (z ∷ zs)) (length zs) (map signed_decimal (z ∷ zs)) refl z (decimals-read z h.0)
-    ∙ numbers-written (done ++ z ∷ []) zs h.1 ∙ ap Ok (append_assoc done (z ∷ []) zs)
+numbers_written : (done zs : List ℤ) → AllByRecursion (λ z. mag z < 2 ^ 63) zs → numbers_after done (length zs) (map signed_decimal zs) ≡ Ok (done ++ zs)
+numbers_written done [] h = ap Ok (sym (append-nil done))
+numbers_written done (z ∷ zs) h =
+    numbers_more done (length (z ∷ zs)) (length zs) (map signed_decimal (z ∷ zs)) refl z (decimals_read z h.0)
+    ∙ numbers_written (done ++ z ∷ []) zs h.1 ∙ ap Ok (append_assoc done (z ∷ []) zs)
 
 back : (r : Numbers) → Nine r → nine_numbers (map signed_decimal (items_of r)) ≡ Ok r
 back r nine =
     let long : length (items_of r) ≡ 9 = length-append r.coefficients (r.bound ∷ []) ∙ ap (λ n. n + 1) nine.0 in
-    nine-ok (map signed_decimal (items_of r)) (items_of r) (ap (λ n. numbers_after [] n (map signed_decimal (items_of r))) (sym long) ∙ numbers-written [] (items_of r) nine.1)
-    ∙ ap Ok (sym (shape-whole r nine.0))
+    nine_ok (map signed_decimal (items_of r)) (items_of r) (ap (λ n. numbers_after [] n (map signed_decimal (items_of r))) (sym long) ∙ numbers_written [] (items_of r) nine.1)
+    ∙ ap Ok (sym (shape_whole r nine.0))
   where
-    shape-whole : (q : Numbers) → length q.coefficients ≡ 8 → q ≡ shape (items_of q)
-    shape-whole q e =
+    shape_whole : (q : Numbers) → length q.coefficients ≡ 8 → q ≡ shape (items_of q)
+    shape_whole q e =
         shape_is q.coefficients 8 q.bound q.bound e (omega arith) refl
         ∙ ap (λ l. shape (l ++ q.bound ∷ [])) (take_all 8 q.coefficients (omega arith))
 
@@ -37,13 +37,13 @@ pub refused : {X Y : Type 0} (e : LineError) (x : X) → ◌≡◌ {A = Result X
 refused e x h = let z : ◌≡◌ {A = ℕ} 0 1 = cc in absurd (omega arith)
 
 -- what was read on the way to a value
-pub then-parts : {X Y : Type 0} (r : Result X LineError) (f : X → Result Y LineError) (y : Y) → and_then r f ≡ Ok y → (x : X) × ((r ≡ Ok x) × (f x ≡ Ok y))
-then-parts (Ok x) f y h = (x, (refl, h))
-then-parts (Err e) f y h = refused e y h
+pub then_parts : {X Y : Type 0} (r : Result X LineError) (f : X → Result Y LineError) (y : Y) → and_then r f ≡ Ok y → (x : X) × ((r ≡ Ok x) × (f x ≡ Ok y))
+then_parts (Ok x) f y h = (x, (refl, h))
+then_parts (Err e) f y h = refused e y h
 
-pub ended-value : {X : Type 0} (x y : X) (ws : List (List ℕ)) → ended x ws ≡ Ok y → x ≡ y
-ended-value x y [] h = cc
-ended-value x y (w ∷ ws) h = refused TooManyWords y h
+pub ended_value : {X : Type 0} (x y : X) (ws : List (List ℕ)) → ended x ws ≡ Ok y → x ≡ y
+ended_value x y [] h = cc
+ended_value x y (w ∷ ws) h = refused TooManyWords y h
 
 -- numbers that are read fit 64 bits
 number_small : (w : List ℕ) (z : ℤ) → number_of w ≡ Ok z → mag z < 2 ^ 63
@@ -63,27 +63,27 @@ first_small (w ∷ ws) z h = number_small w z h
 abbrev Small : ℤ → Type 0
 Small z = mag z < 2 ^ 63
 
-numbers-small : (done : List ℤ) (n : ℕ) (ws : List (List ℕ)) (zs : List ℤ) → AllByRecursion Small done → numbers_after done n ws ≡ Ok zs → AllByRecursion Small zs × (length zs ≡ length done + n)
-numbers-small done zero ws zs h e =
-    let same = ended-value done zs ws e in
+numbers_small : (done : List ℤ) (n : ℕ) (ws : List (List ℕ)) (zs : List ℤ) → AllByRecursion Small done → numbers_after done n ws ≡ Ok zs → AllByRecursion Small zs × (length zs ≡ length done + n)
+numbers_small done zero ws zs h e =
+    let same = ended_value done zs ws e in
     (subst (AllByRecursion Small) same h, sym (ap length same) ∙ sym (add-zero (length done)))
-numbers-small done (suc n) ws zs h e =
-    let p = then-parts (first_number ws) (λ z. numbers_after (done ++ z ∷ []) n (rest_of ws)) zs e in
-    let q = numbers-small (done ++ p.0 ∷ []) n (rest_of ws) zs (All-push Small done p.0 h (first_small ws p.0 p.1.0)) p.1.1 in
+numbers_small done (suc n) ws zs h e =
+    let p = then_parts (first_number ws) (λ z. numbers_after (done ++ z ∷ []) n (rest_of ws)) zs e in
+    let q = numbers_small (done ++ p.0 ∷ []) n (rest_of ws) zs (All-push Small done p.0 h (first_small ws p.0 p.1.0)) p.1.1 in
     (q.0, omega (arith, q.1, length_push done p.0))
 
 only : (ws : List (List ℕ)) (r : Numbers) → nine_numbers ws ≡ Ok r → Nine r
 unfolding nine_numbers
 only ws r h =
-    let p = then-parts (numbers_after [] 9 ws) (λ zs. Ok (shape zs)) r h in
-    let q = numbers-small [] 9 ws p.0 tt p.1.0 in
+    let p = then_parts (numbers_after [] 9 ws) (λ zs. Ok (shape zs)) r h in
+    let q = numbers_small [] 9 ws p.0 tt p.1.0 in
     let same : shape p.0 ≡ r = let e = p.1.1 in cc in
-    subst Nine same (nine-shape p.0 q.0 q.1)
+    subst Nine same (nine_shape p.0 q.0 q.1)
   where
-    nine-shape : (zs : List ℤ) → AllByRecursion Small zs → length zs ≡ length {A = ℤ} [] + 9 → Nine (shape zs)
-    nine-shape zs small long =
+    nine_shape : (zs : List ℤ) → AllByRecursion Small zs → length zs ≡ length {A = ℤ} [] + 9 → Nine (shape zs)
+    nine_shape zs small long =
         let whole : zs ≡ take 8 zs ++ get_or zs 8 (pos 0) ∷ [] = sym (take_all 9 zs (omega arith)) ∙ take_more zs 8 (pos 0) (omega arith) in
         (length-take-le 8 zs (omega arith), subst (AllByRecursion Small) whole small)
 
-pub numbers-read : NumbersRead
-numbers-read = record { back = back; only = only }
+pub numbers_read : NumbersRead
+numbers_read = record { back = back; only = only }

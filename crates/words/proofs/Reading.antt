@@ -7,36 +7,36 @@ use Rattle.words.specs.declared.errors.LineError.TheVariants.{TooManyWords}
 use Rattle.words.specs.Arguments.{and_then, rest_of, ended, first_number, numbers_after, shape, nine_numbers}
 
 -- an error that is handed on
-pub handed-err : {X : Type 0} (r : Result X LineError) (e : LineError) → IsErrAnd r (λ y. y ≡ e) → r ≡ Err e
-handed-err r e h = let p = err_from_is_err_and r h in p.1 ∙ ap Err p.2
+pub handed_err : {X : Type 0} (r : Result X LineError) (e : LineError) → IsErrAnd r (λ y. y ≡ e) → r ≡ Err e
+handed_err r e h = let p = err_from_is_err_and r h in p.1 ∙ ap Err p.2
 
 -- the end of a line, with another value
-pub ended-ok : {X Y : Type 0} (x : X) (y : Y) (ws : List (List ℕ)) → ended x ws ≡ Ok x → ended y ws ≡ Ok y
-ended-ok x y [] h = refl
-ended-ok x y (w ∷ ws) h = let z : ◌≡◌ {A = ℕ} 0 1 = cc in absurd (omega arith)
+pub ended_ok : {X Y : Type 0} (x : X) (y : Y) (ws : List (List ℕ)) → ended x ws ≡ Ok x → ended y ws ≡ Ok y
+ended_ok x y [] h = refl
+ended_ok x y (w ∷ ws) h = let z : ◌≡◌ {A = ℕ} 0 1 = cc in absurd (omega arith)
 
-pub ended-err : {X Y : Type 0} (x : X) (y : Y) (ws : List (List ℕ)) (e : LineError) → ended x ws ≡ Err e → ended y ws ≡ Err e
-ended-err x y [] e h = let z : ◌≡◌ {A = ℕ} 0 1 = cc in absurd (omega arith)
-ended-err x y (w ∷ ws) e h = let k : TooManyWords ≡ e = cc in ap Err k
+pub ended_err : {X Y : Type 0} (x : X) (y : Y) (ws : List (List ℕ)) (e : LineError) → ended x ws ≡ Err e → ended y ws ≡ Err e
+ended_err x y [] e h = let z : ◌≡◌ {A = ℕ} 0 1 = cc in absurd (omega arith)
+ended_err x y (w ∷ ws) e h = let k : TooManyWords ≡ e = cc in ap Err k
 
 -- nine numbers, one by one
 module _ (done : List ℤ) (k m : ℕ) (ws : List (List ℕ)) (more : k ≡ suc m) where
   pub numbers_more : (z : ℤ) → first_number ws ≡ Ok z → numbers_after done k ws ≡ numbers_after (done ++ z ∷ []) m (rest_of ws)
   numbers_more z h = ap (λ n. numbers_after done n ws) more ∙ ap (λ r. and_then r (λ z. numbers_after (done ++ z ∷ []) m (rest_of ws))) h
 
-  pub numbers-stop : (e : LineError) → first_number ws ≡ Err e → numbers_after done k ws ≡ Err e
-  numbers-stop e h = ap (λ n. numbers_after done n ws) more ∙ ap (λ r. and_then r (λ z. numbers_after (done ++ z ∷ []) m (rest_of ws))) h
+  pub numbers_stop : (e : LineError) → first_number ws ≡ Err e → numbers_after done k ws ≡ Err e
+  numbers_stop e h = ap (λ n. numbers_after done n ws) more ∙ ap (λ r. and_then r (λ z. numbers_after (done ++ z ∷ []) m (rest_of ws))) h
 
-pub nine-err : (ws : List (List ℕ)) (e : LineError) → numbers_after [] 9 ws ≡ Err e → nine_numbers ws ≡ Err e
+pub nine_err : (ws : List (List ℕ)) (e : LineError) → numbers_after [] 9 ws ≡ Err e → nine_numbers ws ≡ Err e
 unfolding nine_numbers
-nine-err ws e h = ap (λ r. and_then r (λ zs. Ok (shape zs))) h
+nine_err ws e h = ap (λ r. and_then r (λ zs. Ok (shape zs))) h
 
-pub nine-ok : (ws : List (List ℕ)) (zs : List ℤ) → numbers_after [] 9 ws ≡ Ok zs → nine_numbers ws ≡ Ok (shape zs)
+pub nine_ok : (ws : List (List ℕ)) (zs : List ℤ) → numbers_after [] 9 ws ≡ Ok zs → nine_numbers ws ≡ Ok (shape zs)
 unfolding nine_numbers
-nine-ok ws zs h = ap (λ r. and_then r (λ zs. Ok (shape zs))) h
+nine_ok ws zs h = ap (λ r. and_then r (λ zs. Ok (shape zs))) h
 
-pub column-more : (coefs : List ℤ) (i : ℕ) (v z : ℤ) (ws vs : List (List ℕ)) (r : Result (List ℤ) LineError) → i < 8 → length coefs ≡ 8 → v ≡ z → first_number ws ≡ Ok z → vs ≡ rest_of ws → numbers_after (take i coefs) (9 - i) ws ≡ r → numbers_after (take (i + 1) (set coefs i v)) (9 - (i + 1)) vs ≡ r
-column-more coefs i v z ws vs r small long e first rest inv =
+pub column_more : (coefs : List ℤ) (i : ℕ) (v z : ℤ) (ws vs : List (List ℕ)) (r : Result (List ℤ) LineError) → i < 8 → length coefs ≡ 8 → v ≡ z → first_number ws ≡ Ok z → vs ≡ rest_of ws → numbers_after (take i coefs) (9 - i) ws ≡ r → numbers_after (take (i + 1) (set coefs i v)) (9 - (i + 1)) vs ≡ r
+column_more coefs i v z ws vs r small long e first rest inv =
     let kept : take (i + 1) (set coefs i v) ≡ take i coefs ++ z ∷ [] = take_more_set coefs i v (omega arith) ∙ ap (λ x. take i coefs ++ x ∷ []) e in
     (λ j. numbers_after (kept j) (9 - (i + 1)) (rest j)) ∙ sym (numbers_more (take i coefs) (9 - i) (9 - (i + 1)) ws (omega arith) z first) ∙ inv
 

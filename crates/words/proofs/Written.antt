@@ -12,7 +12,7 @@ use Rattle.std.proofs.lemmas.Fmt.{digits_decimal, decimal_nonempty}
 use Rattle.words.specs.declared.errors.LineError.{LineError}
 use Rattle.words.specs.Hex.{all_hex, hex_bytes, checked}
 use Rattle.words.specs.Words.{separator, Word}
-use Rattle.words.proofs.Bytes.{hex-parts}
+use Rattle.words.proofs.Bytes.{hex_parts}
 use Rattle.words.proofs.Decimal.{own}
 
 -- no separator, as a test that computes
@@ -23,40 +23,40 @@ dark (b ∷ bs) = not (separator b) && dark bs
 abbrev pub Dark : List ℕ → Type 0
 Dark w = AllByRecursion (λ b. separator b ≡ false) w
 
-pub dark-all : (w : List ℕ) → dark w ≡ true → Dark w
-dark-all [] h = tt
-dark-all (b ∷ bs) h = let p = and_parts _ _ h in (not-true _ p.0, dark-all bs p.1)
+pub dark_all : (w : List ℕ) → dark w ≡ true → Dark w
+dark_all [] h = tt
+dark_all (b ∷ bs) h = let p = and_parts _ _ h in (not-true _ p.0, dark_all bs p.1)
 
 -- digits, numbers, hexadecimal digits and stacks are words
-digit-dark : (c : ℕ) → is_ascii_digit c ≡ true → separator c ≡ false
-digit-dark c h = grind (arith, nat_tests)
+digit_dark : (c : ℕ) → is_ascii_digit c ≡ true → separator c ≡ false
+digit_dark c h = grind (arith, nat_tests)
 
-digits-dark : (ds : List ℕ) → all_ascii_digits ds ≡ true → Dark ds
-digits-dark [] h = tt
-digits-dark (c ∷ cs) h = let p = and_parts _ _ h in (digit-dark c p.0, digits-dark cs p.1)
+digits_dark : (ds : List ℕ) → all_ascii_digits ds ≡ true → Dark ds
+digits_dark [] h = tt
+digits_dark (c ∷ cs) h = let p = and_parts _ _ h in (digit_dark c p.0, digits_dark cs p.1)
 
-pub word-decimal : (n : ℕ) → n < 2 ^ 64 → Word (decimal n)
-word-decimal n h = (decimal_nonempty n h, digits-dark (decimal n) (digits_decimal own n h))
+pub word_decimal : (n : ℕ) → n < 2 ^ 64 → Word (decimal n)
+word_decimal n h = (decimal_nonempty n h, digits_dark (decimal n) (digits_decimal own n h))
 
-pub word-signed : (z : ℤ) → mag z < 2 ^ 63 → Word (signed_decimal z)
-word-signed (pos n) h = word-decimal n (omega arith)
-word-signed (negsuc n) h = let d = word-decimal (suc n) (omega arith) in (omega arith, (refl, d.1))
+pub word_signed : (z : ℤ) → mag z < 2 ^ 63 → Word (signed_decimal z)
+word_signed (pos n) h = word_decimal n (omega arith)
+word_signed (negsuc n) h = let d = word_decimal (suc n) (omega arith) in (omega arith, (refl, d.1))
 
-hex-dark : (c : ℕ) → is_ascii_hexdigit c ≡ true → separator c ≡ false
-hex-dark c h = grind (arith, nat_tests)
+hex_dark : (c : ℕ) → is_ascii_hexdigit c ≡ true → separator c ≡ false
+hex_dark c h = grind (arith, nat_tests)
 
-all-hex-dark : (w : List ℕ) → all_hex w ≡ true → Dark w
-all-hex-dark [] h = tt
-all-hex-dark (c ∷ cs) h = let p = and_parts _ _ h in (hex-dark c p.0, all-hex-dark cs p.1)
+all_hex_dark : (w : List ℕ) → all_hex w ≡ true → Dark w
+all_hex_dark [] h = tt
+all_hex_dark (c ∷ cs) h = let p = and_parts _ _ h in (hex_dark c p.0, all_hex_dark cs p.1)
 
 pub readable : (r : Result (List ℕ) LineError) {X : Type 0} (x : X) → is_ok r ≡ true → checked r x ≡ Ok x
 readable (Ok bs) x h = refl
 readable (Err e) x h = absurd (false≢true h)
 
-pub word-hex : (w : List ℕ) → 0 < length w → is_ok (hex_bytes w) ≡ true → Word w
-word-hex w some h = (
+pub word_hex : (w : List ℕ) → 0 < length w → is_ok (hex_bytes w) ≡ true → Word w
+word_hex w some h = (
   some,
-  ⊎_elim (λ t. subst Dark (sym ((bytes_eq-Decides w (codes "-")).0 t)) (dark-all (codes "-") refl))
-      (λ f. all-hex-dark w (hex-parts w (not_from_Decides _ (bytes_eq-Decides w (codes "-")) f) (readable (hex_bytes w) w h)).0)
+  ⊎_elim (λ t. subst Dark (sym ((bytes_eq-Decides w (codes "-")).0 t)) (dark_all (codes "-") refl))
+      (λ f. all_hex_dark w (hex_parts w (not_from_Decides _ (bytes_eq-Decides w (codes "-")) f) (readable (hex_bytes w) w h)).0)
       (cases_Bool (bytes_eq w (codes "-"))),
 )

@@ -1,5 +1,5 @@
-use Rattle.examples.proofs.Computed.{worked-examples}
+use Rattle.examples.proofs.Computed.{worked_examples}
 use Rattle.examples.proofs.theorem.Goals as goal
 
 pub returns : goal.returns
-returns c = worked-examples
+returns c = worked_examples

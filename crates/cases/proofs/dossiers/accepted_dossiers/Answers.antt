@@ -1,5 +1,5 @@
-use Rattle.cases.proofs.DossierCalls.{accepted-dossiers}
+use Rattle.cases.proofs.DossierCalls.{accepted_dossiers_lem}
 use Rattle.cases.proofs.dossiers.accepted_dossiers.Goals as goal
 
 pub returns : goal.returns
-returns c = accepted-dossiers
+returns c = accepted_dossiers_lem

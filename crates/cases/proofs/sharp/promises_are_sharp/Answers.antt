@@ -1,5 +1,5 @@
-use Rattle.cases.proofs.SharpProved.{promises-sharp}
+use Rattle.cases.proofs.SharpProved.{promises_sharp}
 use Rattle.cases.proofs.sharp.promises_are_sharp.Goals as goal
 
 pub returns : goal.returns
-returns c = promises-sharp
+returns c = promises_sharp

@@ -2,33 +2,33 @@ use Rattle.std.proofs.Common.{sym, ap, ◌∙◌, arith}
 use Rattle.std.proofs.lemmas.Str.Pattern.{starts_char}
 use Rattle.std.proofs.lemmas.Bool.Decides.{not_from_Decides}
 use Rattle.commands.specs.Words.{words_of}
-use Rattle.commands.proofs.Parsing.{line-none, line-comment, line-keyed}
-use Rattle.commands.proofs.Said.{lines-read}
+use Rattle.commands.proofs.Parsing.{line_none, line_comment, line_keyed}
+use Rattle.commands.proofs.Said.{lines_read}
 use Rattle.commands.proofs.parser.parse.Goals as goal
 
 pub returns-in_default : goal.returns-in_default
-returns-in_default c = record { value = sym (line-none _ (ap words_of (sym c.new-words.ensures) ∙ c.in_default.ensures.handed.0)); law = lines-read }
+returns-in_default c = record { value = sym (line_none _ (ap words_of (sym c.new-words.ensures) ∙ c.in_default.ensures.handed.0)); law = lines_read }
 
 pub returns-then-starts_with : goal.returns-then-starts_with
 returns-then-starts_with c =
     let mark = starts_char 35 c.in-Some.first.now _ c.starts_with.ensures.cases (omega arith) (omega arith) in
-    record { value = sym (line-comment _ c.in-Some.first.now _ (ap words_of (sym c.new-words.ensures) ∙ c.in-Some.ensures.handed.0) (mark.0 c.if-starts_with.true)); law = lines-read }
+    record { value = sym (line_comment _ c.in-Some.first.now _ (ap words_of (sym c.new-words.ensures) ∙ c.in-Some.ensures.handed.0) (mark.0 c.if-starts_with.true)); law = lines_read }
 
 pub returns-in-Some-read : goal.returns-in-Some-read
 returns-in-Some-read c =
     let mark = starts_char 35 c.in-Some.first.now _ c.starts_with.ensures.cases (omega arith) (omega arith) in
     record {
       value = c.command.ensures
-          ∙ sym (line-keyed _ c.in-Some.first.now _ (ap words_of (sym c.new-words.ensures) ∙ c.in-Some.ensures.handed.0)
+          ∙ sym (line_keyed _ c.in-Some.first.now _ (ap words_of (sym c.new-words.ensures) ∙ c.in-Some.ensures.handed.0)
           (not_from_Decides _ mark c.if-starts_with.false) _ (sym c.read.ensures ∙ c.in-Some-read.is));
-      law = lines-read;
+      law = lines_read;
     }
 
 pub returns-in-None : goal.returns-in-None
 returns-in-None c =
     let mark = starts_char 35 c.in-Some.first.now _ c.starts_with.ensures.cases (omega arith) (omega arith) in
     record {
-      value = sym (line-keyed _ c.in-Some.first.now _ (ap words_of (sym c.new-words.ensures) ∙ c.in-Some.ensures.handed.0)
+      value = sym (line_keyed _ c.in-Some.first.now _ (ap words_of (sym c.new-words.ensures) ∙ c.in-Some.ensures.handed.0)
           (not_from_Decides _ mark c.if-starts_with.false) _ (sym c.read.ensures ∙ c.in-None.is));
-      law = lines-read;
+      law = lines_read;
     }

@@ -1,4 +1,4 @@
-use Rattle.extension.proofs.Refusals.{stack-refuses}
+use Rattle.extension.proofs.Refusals.{stack_refuses}
 use Rattle.extension.proofs.stacks.ask_weaken_split_never.Goals as goal
 
 pub returns : goal.returns
@@ -6,5 +6,5 @@ returns c =
     record {
       answer = c.put_weaken_split_never.ensures.answer;
       kept = c.put_weaken_split_never.ensures.kept;
-      refused = stack-refuses c.args.count c.args.sheet.now c.args.goal.now c.args.certificate.now _ c.put_weaken_split_never.ensures.answer;
+      refused = stack_refuses c.args.count c.args.sheet.now c.args.goal.now c.args.certificate.now _ c.put_weaken_split_never.ensures.answer;
     }

@@ -5,7 +5,7 @@ use Rattle.std.proofs.lemmas.Bool.{le-leb, lt-leb}
 use Rattle.rows.specs.declared.numbers.Numbers.{Numbers}
 use Rattle.rows.proofs.Chains.{stops, goes, checked, failed}
 use Rattle.extension.specs.Weakens.{slack_says, slack_tests}
-use Rattle.extension.proofs.Slacks.{bound-lowers, slack-lowers}
+use Rattle.extension.proofs.Slacks.{bound_lowers, slack_lowers}
 use Rattle.extension.proofs.weaken.lowered_goal.Goals as goal
 
 pub returns-then-certificate-lt-LOWER_FROM : goal.returns-then-certificate-lt-LOWER_FROM
@@ -25,8 +25,8 @@ lowered_bound-bound-requires c =
     let n : SFits w64 c.numbers-numbers.result.now.bound = search rules in
     let b = to_z-of_z w64 c.numbers-numbers.result.now.bound n ∙ ap (λ (r : Numbers). r.bound) c.numbers-numbers.ensures in
     record {
-      bound = bound-lowers c.args.goal.now.numbers _ c.args.goal.now.held b;
-      slack = slack-lowers _ c.in_ok-slack_test.ensures;
+      bound = bound_lowers c.args.goal.now.numbers _ c.args.goal.now.held b;
+      slack = slack_lowers _ c.in_ok-slack_test.ensures;
     }
 
 remade : (n goal : Numbers) (b d : ℤ) → n ≡ goal → b ≡ d → ◌≡◌ {A = Numbers} (record { coefficients = n.coefficients; bound = b }) (record { coefficients = goal.coefficients; bound = d })

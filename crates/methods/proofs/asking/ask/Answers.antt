@@ -1,4 +1,4 @@
-use Rattle.methods.proofs.AskAnswers.{sound-answer, placed-answer}
+use Rattle.methods.proofs.AskAnswers.{sound_answer, placed_answer}
 use Rattle.methods.proofs.asking.ask.Goals as goal
 
 pub returns : goal.returns
@@ -8,6 +8,6 @@ returns g c =
     record {
       answer = c.put_question.ensures.answer;
       kept = c.put_question.ensures.kept;
-      sound = sound-answer m l c.args.count c.args.sheet.now c.args.goal.now c.args.certificate.now _ c.put_question.ensures.answer;
-      placed = placed-answer m l c.args.count c.args.sheet.now c.args.goal.now c.args.certificate.now _ c.put_question.ensures.answer;
+      sound = sound_answer m l c.args.count c.args.sheet.now c.args.goal.now c.args.certificate.now _ c.put_question.ensures.answer;
+      placed = placed_answer m l c.args.count c.args.sheet.now c.args.goal.now c.args.certificate.now _ c.put_question.ensures.answer;
     }

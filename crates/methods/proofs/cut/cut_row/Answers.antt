@@ -8,7 +8,7 @@ use Rattle.rows.specs.Limits.{magnitude_of}
 use Rattle.rows.specs.Shapes.{first_beyond}
 use Rattle.rows.proofs.Chains.{stops, goes, checked, failed}
 use Rattle.methods.specs.Cuts.{cut_tests, cut_weights_from, divisor_from}
-use Rattle.methods.proofs.WeightTests.{range-yes, weights-yes}
+use Rattle.methods.proofs.WeightTests.{range_yes, weights_yes}
 use Rattle.methods.proofs.cut.cut_row.Goals as goal
 
 pub returns-then-certificate-facts : goal.returns-then-certificate-facts
@@ -29,12 +29,12 @@ returns-in_err-weights_test c =
 
 pub columns_test-requires : goal.columns_test-requires
 columns_test-requires c =
-    let w = weights-yes c.args.certificate.now cut_weights_from c.args.facts.now (sym c.in_ok-weights_test.ensures) in
-    let g = range-yes 1 c.args.certificate.now divisor_from (sym c.in_ok-range_test.ensures) in
+    let w = weights_yes c.args.certificate.now cut_weights_from c.args.facts.now (sym c.in_ok-weights_test.ensures) in
+    let g = range_yes 1 c.args.certificate.now divisor_from (sym c.in_ok-range_test.ensures) in
     record {
-      weighable = record { few = c.requires.few; are-rows = c.requires.are-rows; inside = c.if-certificate-facts.false; in-range = w };
-      divisor-least = g.0;
-      divisor-most = g.1;
+      weighable = record { few = c.requires.few; are_rows = c.requires.are_rows; inside = c.if-certificate-facts.false; in_range_lem = w };
+      divisor_least = g.0;
+      divisor_most = g.1;
     }
 
 pub returns-in_err-columns_test : goal.returns-in_err-columns_test
@@ -45,12 +45,12 @@ returns-in_err-columns_test c =
 
 pub divided_row-row-requires : goal.divided_row-row-requires
 divided_row-row-requires c =
-    let w = weights-yes c.args.certificate.now cut_weights_from c.args.facts.now (sym c.in_ok-weights_test.ensures) in
-    let g = range-yes 1 c.args.certificate.now divisor_from (sym c.in_ok-range_test.ensures) in
+    let w = weights_yes c.args.certificate.now cut_weights_from c.args.facts.now (sym c.in_ok-weights_test.ensures) in
+    let g = range_yes 1 c.args.certificate.now divisor_from (sym c.in_ok-range_test.ensures) in
     record {
-      weighable = record { few = c.requires.few; are-rows = c.requires.are-rows; inside = c.if-certificate-facts.false; in-range = w };
-      divisor-least = g.0;
-      divisor-most = g.1;
+      weighable = record { few = c.requires.few; are_rows = c.requires.are_rows; inside = c.if-certificate-facts.false; in_range_lem = w };
+      divisor_least = g.0;
+      divisor_most = g.1;
     }
 
 pub returns-in-None : goal.returns-in-None

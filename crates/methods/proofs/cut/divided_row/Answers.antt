@@ -4,7 +4,7 @@ use Rattle.std.proofs.lemmas.Int.{to_z-of_z}
 use Rattle.rows.specs.Limits.{columns}
 use Rattle.rows.proofs.Items.{same_numbers}
 use Rattle.methods.specs.Cuts.{divided}
-use Rattle.methods.proofs.Divisions.{filled_more, filled-all}
+use Rattle.methods.proofs.Divisions.{filled_more, filled_all}
 use Rattle.methods.proofs.cut.divided_row.Goals as goal
 
 pub loop-column-preserved : goal.loop-column-preserved
@@ -19,5 +19,5 @@ pub returns : goal.returns
 returns c =
     let f : SFits w64 c.divided_bound-bound.result = search rules in
     same_numbers _ _ _ _
-    (filled-all (divided c.args.facts.now c.args.certificate.now) c.loop-column.coefficients columns c.loop-column.column c.loop-column.invariant.0 c.loop-column-test.false c.loop-column.auto.column-end c.loop-column.invariant.1)
+    (filled_all (divided c.args.facts.now c.args.certificate.now) c.loop-column.coefficients columns c.loop-column.column c.loop-column.invariant.0 c.loop-column-test.false c.loop-column.auto.column-end c.loop-column.invariant.1)
     (to_z-of_z w64 _ f ∙ c.divided_bound-bound.ensures)

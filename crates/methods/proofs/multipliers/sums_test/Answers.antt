@@ -3,7 +3,7 @@ use Rattle.std.proofs.lemmas.Result.{err_from_is_err_and}
 use Rattle.std.proofs.lemmas.Bool.{eq-eqb, ne_eqb}
 use Rattle.methods.specs.Sums.{sums_say, weights_from}
 use Rattle.rows.proofs.Chains.{stops, goes, checked, failed}
-use Rattle.methods.proofs.WeightTests.{range-yes, weights-yes}
+use Rattle.methods.proofs.WeightTests.{range_yes, weights_yes}
 use Rattle.methods.proofs.multipliers.sums_test.Goals as goal
 
 pub returns-then-certificate-facts : goal.returns-then-certificate-facts
@@ -24,11 +24,11 @@ returns-in_err-weights_test c =
 
 pub columns_test-requires : goal.columns_test-requires
 columns_test-requires c =
-    let w = weights-yes c.args.certificate.now weights_from c.args.facts.now (sym c.in_ok-weights_test.ensures) in
-    let g = range-yes 1 c.args.certificate.now 0 (sym c.in_ok-range_test.ensures) in
+    let w = weights_yes c.args.certificate.now weights_from c.args.facts.now (sym c.in_ok-weights_test.ensures) in
+    let g = range_yes 1 c.args.certificate.now 0 (sym c.in_ok-range_test.ensures) in
     record {
-      facts = record { few = c.requires.few; are-rows = c.requires.are-rows; inside = omega arith; in-range = w };
-      goal = record { is_row = c.requires.goal-is-row; there = omega arith; in-range = g.1 };
+      facts = record { few = c.requires.few; are_rows = c.requires.are_rows; inside = omega arith; in_range_lem = w };
+      goal = record { is_row = c.requires.goal_is_row; there = omega arith; in_range_lem = g.1 };
     }
 
 pub returns-in_err-columns_test : goal.returns-in_err-columns_test
@@ -39,11 +39,11 @@ returns-in_err-columns_test c =
 
 pub bound_test-requires : goal.bound_test-requires
 bound_test-requires c =
-    let w = weights-yes c.args.certificate.now weights_from c.args.facts.now (sym c.in_ok-weights_test.ensures) in
-    let g = range-yes 1 c.args.certificate.now 0 (sym c.in_ok-range_test.ensures) in
+    let w = weights_yes c.args.certificate.now weights_from c.args.facts.now (sym c.in_ok-weights_test.ensures) in
+    let g = range_yes 1 c.args.certificate.now 0 (sym c.in_ok-range_test.ensures) in
     record {
-      facts = record { few = c.requires.few; are-rows = c.requires.are-rows; inside = omega arith; in-range = w };
-      goal = record { is_row = c.requires.goal-is-row; there = omega arith; in-range = g.1 };
+      facts = record { few = c.requires.few; are_rows = c.requires.are_rows; inside = omega arith; in_range_lem = w };
+      goal = record { is_row = c.requires.goal_is_row; there = omega arith; in_range_lem = g.1 };
     }
 
 pub returns : goal.returns

@@ -1,12 +1,12 @@
 use Rattle.std.proofs.Common.{◌≡◌, ℕ, ◌+◌, ◌<◌, ◌≤◌, length, ap, ◌∙◌, subst}
 use Rattle.methods.specs.Splits.{first_from, second_from}
-use Rattle.methods.proofs.SplitAnswers.{row-short, row_written, row-too-large}
+use Rattle.methods.proofs.SplitAnswers.{row_short, row_written, row_too_large}
 use Rattle.methods.proofs.split.split_row.Goals as goal
 
 pub returns-then-certificate-length : goal.returns-then-certificate-length
 returns-then-certificate-length c =
     let e : first_from + c.from-length.result ≡ second_from c.args.certificate.now = ap (λ (n : ℕ). first_from + n) (c.from-length.ensures ∙ c.word_at.ensures) in
-    rw c.of.ensures (row-short c.args.certificate.now (subst (λ (n : ℕ). length c.args.certificate.now < n) e c.if-certificate-length.true))
+    rw c.of.ensures (row_short c.args.certificate.now (subst (λ (n : ℕ). length c.args.certificate.now < n) e c.if-certificate-length.true))
 
 pub returns-in-Ok : goal.returns-in-Ok
 returns-in-Ok c =
@@ -19,4 +19,4 @@ returns-in-Ok c =
 pub returns-in-Err : goal.returns-in-Err
 returns-in-Err c =
     let e : first_from + c.from-length.result ≡ second_from c.args.certificate.now = ap (λ (n : ℕ). first_from + n) (c.from-length.ensures ∙ c.word_at.ensures) in
-    rw c.from.ensures (row-too-large c.args.certificate.now c.split_numbers.result c.in-Err.item (subst (λ (n : ℕ). n ≤ length c.args.certificate.now) e c.if-certificate-length.false) c.split_numbers.ensures c.in-Err.ensures)
+    rw c.from.ensures (row_too_large c.args.certificate.now c.split_numbers.result c.in-Err.item (subst (λ (n : ℕ). n ≤ length c.args.certificate.now) e c.if-certificate-length.false) c.split_numbers.ensures c.in-Err.ensures)

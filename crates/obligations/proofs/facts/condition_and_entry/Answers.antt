@@ -7,12 +7,12 @@ use Rattle.records.specs.declared.records.PlanEntry.{PlanEntry}
 use Rattle.records.specs.Bounded.{listed, plain_list}
 use Rattle.records.specs.Lists.{at}
 use Rattle.records.specs.Records.{EntryData, row_of, entry_of, place_record_of}
-use Rattle.records.proofs.Fronts.{took-held}
+use Rattle.records.proofs.Fronts.{took_held}
 use Rattle.semantics.specs.Enumerated.{own_test, entry_facts}
 use Rattle.semantics.specs.Obligations.{tests}
 use Rattle.obligations.specs.Facts.{most_facts}
-use Rattle.obligations.proofs.EntryTests.{opposites-most}
-use Rattle.obligations.proofs.ShortLists.{plain-most, at_plain}
+use Rattle.obligations.proofs.EntryTests.{opposites_most}
+use Rattle.obligations.proofs.ShortLists.{plain_most, at_plain}
 use Rattle.obligations.proofs.facts.condition_and_entry.Goals as goal
 use Rattle.obligations.proofs.facts.condition_and_entry.Goals.{After-add_rows, After-add_opposites, After-get}
 
@@ -36,7 +36,7 @@ own c o e =
 pub add_opposites-requires : goal.add_opposites-requires
 add_opposites-requires c =
     let e = ap length (conditions (goal.at.add_opposites-requires c).After-add_rows) in
-    let m = plain-most row_of c.args.place.now.condition in
+    let m = plain_most row_of c.args.place.now.condition in
     omega (arith, e, m)
 
 pub returns-in-Some : goal.returns-in-Some
@@ -45,11 +45,11 @@ returns-in-Some c =
     let os = map opposite_of (take c.args.entry (tests (plain_list entry_of c.args.place.now.tested))) in
     let e = opposites (goal.at.returns-in-Some c).After-add_opposites in
     let l = length-append cs os in
-    let m = plain-most row_of c.args.place.now.condition in
-    let k = opposites-most c.args.place.now.tested c.args.entry in
+    let m = plain_most row_of c.args.place.now.condition in
+    let k = opposites_most c.args.place.now.tested c.args.entry in
     let s = ap length e in
     let room : length (listed c.add_opposites.new.facts) < most_facts = omega (arith, l, m, k, s) in
-    took-held c.push.result _ most_facts (listed c.push.new.self) (listed c.add_opposites.new.facts ++ c.numbers.result.now ∷ []) (listed c.add_opposites.new.facts) c.push.ensures.took room c.push.ensures.listed
+    took_held c.push.result _ most_facts (listed c.push.new.self) (listed c.add_opposites.new.facts ++ c.numbers.result.now ∷ []) (listed c.add_opposites.new.facts) c.push.ensures.took room c.push.ensures.listed
     ∙ ap (λ (x : Numbers). listed c.add_opposites.new.facts ++ x ∷ []) c.numbers.ensures
     ∙ ap (λ (xs : List Numbers). xs ++ c.in-Some.tested.test.numbers ∷ []) e
     ∙ append_assoc cs os (c.in-Some.tested.test.numbers ∷ [])

@@ -1,12 +1,12 @@
 use Rattle.std.proofs.Common.{◌≡◌, ℕ, ◌-◌, ◌≤◌, List, Some, None, Option, sym, ap, ◌∙◌, subst, arith, MatchOption}
 use Rattle.records.specs.Held.{held}
 use Rattle.records.specs.Lists.{at, first_with, place_of}
-use Rattle.records.proofs.Fronts.{found-place}
+use Rattle.records.proofs.Fronts.{found_place}
 use Rattle.obligations.proofs.lookups.record_with.Goals as goal
 
 -- what the search of the register tells
 told : {X : Type 0} (num : X → ℕ) (n : ℕ) (xs : List X) (o : Option ℕ) → o ≡ place_of num n 0 xs → MatchOption o (first_with num n xs ≡ None) (λ j. (0 ≤ j) × (first_with num n xs ≡ at (j - 0) xs))
-told num n xs o e = subst (λ (p : Option ℕ). MatchOption p (first_with num n xs ≡ None) (λ j. (0 ≤ j) × (first_with num n xs ≡ at (j - 0) xs))) (sym e) (found-place num n 0 xs)
+told num n xs o e = subst (λ (p : Option ℕ). MatchOption p (first_with num n xs ≡ None) (λ j. (0 ≤ j) × (first_with num n xs ≡ at (j - 0) xs))) (sym e) (found_place num n 0 xs)
 
 pub returns-in-Some : goal.returns-in-Some
 returns-in-Some g c =

@@ -1,5 +1,5 @@
-use Rattle.semantics.proofs.GoalsMet.{choice-goal}
+use Rattle.semantics.proofs.GoalsMet.{choice_goal}
 use Rattle.semantics.proofs.laws.choices_carry.Goals as goal
 
 pub returns : goal.returns
-returns c = choice-goal
+returns c = choice_goal

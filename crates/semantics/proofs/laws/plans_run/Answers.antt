@@ -1,5 +1,5 @@
-use Rattle.semantics.proofs.PlanRuns.{plans-run}
+use Rattle.semantics.proofs.PlanRuns.{plans_run_lem}
 use Rattle.semantics.proofs.laws.plans_run.Goals as goal
 
 pub returns : goal.returns
-returns c = plans-run
+returns c = plans_run_lem

@@ -1,5 +1,5 @@
-use Rattle.semantics.proofs.GoalsMet.{update-goal}
+use Rattle.semantics.proofs.GoalsMet.{update_goal}
 use Rattle.semantics.proofs.laws.updates_carry.Goals as goal
 
 pub returns : goal.returns
-returns c = update-goal
+returns c = update_goal

@@ -5,19 +5,19 @@ use Rattle.records.specs.declared.shape.Shape.{Shape}
 use Rattle.records.specs.Held.{held}
 use Rattle.records.specs.Records.{transition_of}
 use Rattle.formats.specs.Witnesses.{Progress, named_in, numbers_in, witness_at, pieces_of, pieces_say, references_say, content_says}
-use Rattle.formats.proofs.PieceTests.{given-ok, given-err}
+use Rattle.formats.proofs.PieceTests.{given_ok, given_err}
 use Rattle.sequences.proofs.admission.content_test.Goals as goal
 
 pub returns-in_err-noted : goal.returns-in_err-noted
 unfolding content_says
 returns-in_err-noted c =
     let p = err_from_is_err_and c.from_residual.result c.from_residual.ensures.1 in
-    rw (p.1, p.2) (stops _ _ _ (given-err _ _ _ c.in_err-noted.ensures ∙ ap (λ (z : Shape). pieces_say z c.args.bytes.now) c.shape-shape.ensures))
+    rw (p.1, p.2) (stops _ _ _ (given_err _ _ _ c.in_err-noted.ensures ∙ ap (λ (z : Shape). pieces_say z c.args.bytes.now) c.shape-shape.ensures))
 
 pub returns : goal.returns
 unfolding content_says
 returns c =
-    let o = given-ok _ _ _ c.in_ok-noted.ensures in
+    let o = given_ok _ _ _ c.in_ok-noted.ensures in
     let b = c.args.bytes.now in
     let ts = map transition_of (held c.args.table.now) in
     goes _ _ _ (o.0 ∙ ap (λ (z : Shape). pieces_say z b) c.shape-shape.ensures)

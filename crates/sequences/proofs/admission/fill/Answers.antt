@@ -10,11 +10,11 @@ use Rattle.formats.specs.Pieces.{pieces_from}
 use Rattle.records.specs.Records.{PlaceData, InnerData, place_record_of, inner_of}
 use Rattle.formats.specs.Walks.{PieceData}
 use Rattle.formats.specs.Witnesses.{Progress, RecordData, body_by, record_by, further_by, places_of, inners_of, pieces_of, witness_at}
-use Rattle.sequences.proofs.Filling.{Filled, filled-begins, filled-done, places-after, inners-after, roomy}
-use Rattle.sequences.proofs.HandedSteps.{Given, some-handed, none-handed, fault-handed, part-located, comes-on}
-use Rattle.formats.proofs.PieceTests.{given-ok, given-err}
-use Rattle.formats.proofs.WalkSteps.{pieces-all}
-use Rattle.sequences.proofs.WitnessWalks.{Walking, ahead, walking-begins, walking-lost, walking-passes, walking-more, next-places, next-inners}
+use Rattle.sequences.proofs.Filling.{Filled, filled_begins, filled_done, places_after, inners_after, roomy}
+use Rattle.sequences.proofs.HandedSteps.{Given, some_handed, none_handed, fault_handed, part_located, comes_on}
+use Rattle.formats.proofs.PieceTests.{given_ok, given_err}
+use Rattle.formats.proofs.WalkSteps.{pieces_all}
+use Rattle.sequences.proofs.WitnessWalks.{Walking, ahead, walking_begins, walking_lost, walking_passes, walking_more, next_places, next_inners}
 use Rattle.sequences.proofs.admission.fill.Goals as goal
 use Rattle.sequences.proofs.admission.fill.Goals.{In-Some, In_ok-found, After-keep}
 
@@ -22,17 +22,17 @@ pub loop-piece-init : goal.loop-piece-init
 unfolding pieces_of
 loop-piece-init c =
     let e = sym c.new-noted.ensures in (
-      subst (Walking c.args.shape c.args.bytes.now (record { bytes = c.args.bytes.now; at = pieces_from })) e (walking-begins c.args.shape c.args.bytes.now),
+      subst (Walking c.args.shape c.args.bytes.now (record { bytes = c.args.bytes.now; at = pieces_from })) e (walking_begins c.args.shape c.args.bytes.now),
       subst (λ (s : Progress). Filled place_record_of (witness_at c.args.shape c.args.bytes.now).places (witness_at c.args.shape c.args.bytes.now).places s.places c.args.places.now c.args.places.now) e
-          (filled-begins place_record_of (witness_at c.args.shape c.args.bytes.now).places c.args.places.now c.requires.no_places),
+          (filled_begins place_record_of (witness_at c.args.shape c.args.bytes.now).places c.args.places.now c.requires.no_places),
       subst (λ (s : Progress). Filled inner_of (witness_at c.args.shape c.args.bytes.now).inners (witness_at c.args.shape c.args.bytes.now).inners s.inners c.args.inners.now c.args.inners.now) e
-          (filled-begins inner_of (witness_at c.args.shape c.args.bytes.now).inners c.args.inners.now c.requires.no_inners),
+          (filled_begins inner_of (witness_at c.args.shape c.args.bytes.now).inners c.args.inners.now c.requires.no_inners),
     )
 
 module _ (c : In-Some) where
   handed : Given (reader_of c.loop-piece.reader) (data_of c.in-Some.piece)
   handed =
-      some-handed (reader_of c.loop-piece.reader) (data_of c.in-Some.piece)
+      some_handed (reader_of c.loop-piece.reader) (data_of c.in-Some.piece)
       (ap (λ (o : Option WitnessPiece). Ok (option_map data_of o)) (sym c.in-Some.is) ∙ c.in_ok-piece.ensures.handed)
 
   short : length c.loop-piece.reader.bytes.now < 2 ^ 64
@@ -41,26 +41,26 @@ module _ (c : In-Some) where
       subst (λ (xs : List ℕ). length xs < 2 ^ 64) (sym c.loop-piece.invariant.0.same) h
 
   passes : Ok tt ≡ body_by c.args.shape (progress_of c.loop-piece.noted) (data_of c.in-Some.piece)
-  passes = walking-passes c.args.shape c.args.bytes.now (reader_of c.loop-piece.reader) (progress_of c.loop-piece.noted) c.loop-piece.invariant.0 (data_of c.in-Some.piece) handed c.requires.passed
+  passes = walking_passes c.args.shape c.args.bytes.now (reader_of c.loop-piece.reader) (progress_of c.loop-piece.noted) c.loop-piece.invariant.0 (data_of c.in-Some.piece) handed c.requires.passed
 
 pub returns-in_err-piece : goal.returns-in_err-piece
 returns-in_err-piece c =
-    let h = fault-handed (reader_of c.loop-piece.reader) _ c.in_err-piece.ensures.handed in
-    never _ (walking-lost c.args.shape c.args.bytes.now (reader_of c.loop-piece.reader) (progress_of c.loop-piece.noted) c.loop-piece.invariant.0 _ h.0 h.1 ∙ sym c.requires.passed)
+    let h = fault_handed (reader_of c.loop-piece.reader) _ c.in_err-piece.ensures.handed in
+    never _ (walking_lost c.args.shape c.args.bytes.now (reader_of c.loop-piece.reader) (progress_of c.loop-piece.noted) c.loop-piece.invariant.0 _ h.0 h.1 ∙ sym c.requires.passed)
 
 pub read-requires : goal.read-requires
 read-requires c =
     let d = (goal.at.read-requires c).In-Some in
-    record { located = part-located (reader_of c.loop-piece.reader) (data_of c.in-Some.piece) (handed d) (short d); choices = c.requires.choices }
+    record { located = part_located (reader_of c.loop-piece.reader) (data_of c.in-Some.piece) (handed d) (short d); choices = c.requires.choices }
 
 pub returns-in_err-found : goal.returns-in_err-found
 returns-in_err-found c =
     let d = (goal.at.returns-in_err-found c).In-Some in
-    never _ (given-err _ _ _ c.in_err-found.ensures.answer ∙ sym (passes d))
+    never _ (given_err _ _ _ c.in_err-found.ensures.answer ∙ sym (passes d))
 
 -- what was read
 read : (c : In_ok-found) → record_of c.in_ok-found.found ≡ record_by c.args.shape (data_of c.in-Some.piece)
-read c = (given-ok _ _ _ c.in_ok-found.ensures.answer).1
+read c = (given_ok _ _ _ c.in_ok-found.ensures.answer).1
 
 pub keep-requires : goal.keep-requires
 keep-requires c =
@@ -68,8 +68,8 @@ keep-requires c =
     let f = (goal.at.keep-requires c).In_ok-found in
     subst (λ (x : RecordData). Roomy x c.loop-piece.places c.loop-piece.inners) (sym (read f))
     (roomy c.args.shape (progress_of c.loop-piece.noted) c.loop-piece.places c.loop-piece.inners (data_of c.in-Some.piece) (passes d) c.loop-piece.invariant.1.many c.loop-piece.invariant.2.many
-    (subst (λ (n : ℕ). most_places ≤ n) (sym c.loop-piece.invariant.1.room-is) c.requires.places_room)
-    (subst (λ (n : ℕ). most_inners ≤ n) (sym c.loop-piece.invariant.2.room-is) c.requires.inners_room))
+    (subst (λ (n : ℕ). most_places ≤ n) (sym c.loop-piece.invariant.1.room_is) c.requires.places_room)
+    (subst (λ (n : ℕ). most_inners ≤ n) (sym c.loop-piece.invariant.2.room_is) c.requires.inners_room))
 
 pub loop-piece-preserved : goal.loop-piece-preserved
 loop-piece-preserved c =
@@ -91,14 +91,14 @@ loop-piece-preserved c =
     × Filled place_record_of (witness_at shape bytes).places (places_of shape (ahead q)) t.places c.args.places.now c.keep.new.places
     × Filled inner_of (witness_at shape bytes).inners (inners_of shape (ahead q)) t.inners c.args.inners.now c.keep.new.inners in
     let here : known (passed_at r) (further_by s p) = (
-      walking-more shape bytes r s w p (handed d) (passes d),
-      places-after shape s place_record_of (witness_at shape bytes).places xs c.args.places.now c.loop-piece.places c.keep.new.places p
-          (subst (λ (zs : List PlaceData). Filled place_record_of (witness_at shape bytes).places zs s.places c.args.places.now c.loop-piece.places) (next-places shape bytes r s w p (handed d)) c.loop-piece.invariant.1)
+      walking_more shape bytes r s w p (handed d) (passes d),
+      places_after shape s place_record_of (witness_at shape bytes).places xs c.args.places.now c.loop-piece.places c.keep.new.places p
+          (subst (λ (zs : List PlaceData). Filled place_record_of (witness_at shape bytes).places zs s.places c.args.places.now c.loop-piece.places) (next_places shape bytes r s w p (handed d)) c.loop-piece.invariant.1)
           (c.keep.ensures.places ∙ ap (λ (x : RecordData). places_added x (map place_record_of (held c.loop-piece.places))) e)
           (c.keep.ensures.places_behind ∙ ap (λ (x : RecordData). drop (place_count x) (behind c.loop-piece.places)) e)
           c.keep.ensures.places_room,
-      inners-after shape s inner_of (witness_at shape bytes).inners ys c.args.inners.now c.loop-piece.inners c.keep.new.inners p
-          (subst (λ (zs : List InnerData). Filled inner_of (witness_at shape bytes).inners zs s.inners c.args.inners.now c.loop-piece.inners) (next-inners shape bytes r s w p (handed d)) c.loop-piece.invariant.2)
+      inners_after shape s inner_of (witness_at shape bytes).inners ys c.args.inners.now c.loop-piece.inners c.keep.new.inners p
+          (subst (λ (zs : List InnerData). Filled inner_of (witness_at shape bytes).inners zs s.inners c.args.inners.now c.loop-piece.inners) (next_inners shape bytes r s w p (handed d)) c.loop-piece.invariant.2)
           (c.keep.ensures.inners ∙ ap (λ (x : RecordData). inners_added x (map inner_of (held c.loop-piece.inners))) e)
           (c.keep.ensures.inners_behind ∙ ap (λ (x : RecordData). drop (inner_count x) (behind c.loop-piece.inners)) e)
           c.keep.ensures.inners_room,
@@ -108,18 +108,18 @@ loop-piece-preserved c =
 pub loop-piece-smaller : goal.loop-piece-smaller
 loop-piece-smaller c =
     let d = (goal.at.loop-piece-smaller c).In-Some in
-    comes-on (reader_of c.loop-piece.reader) (data_of c.in-Some.piece) (handed d) (reader_of c.next.new.self) c.next.ensures.stands
+    comes_on (reader_of c.loop-piece.reader) (data_of c.in-Some.piece) (handed d) (reader_of c.next.new.self) c.next.ensures.stands
 
 pub returns : goal.returns
 returns c =
-    let h = none-handed (reader_of c.loop-piece.reader) (ap (λ (o : Option WitnessPiece). Ok (option_map data_of o)) (sym c.in_default.is) ∙ c.in_ok-piece.ensures.handed) in
-    let e = pieces-all c.loop-piece.reader.bytes.now c.loop-piece.reader.at h in
+    let h = none_handed (reader_of c.loop-piece.reader) (ap (λ (o : Option WitnessPiece). Ok (option_map data_of o)) (sym c.in_default.is) ∙ c.in_ok-piece.ensures.handed) in
+    let e = pieces_all c.loop-piece.reader.bytes.now c.loop-piece.reader.at h in
     let p = subst (λ (ps : List PieceData). Filled place_record_of (witness_at c.args.shape c.args.bytes.now).places (places_of c.args.shape ps) (progress_of c.loop-piece.noted).places c.args.places.now c.loop-piece.places) e c.loop-piece.invariant.1 in
     let i = subst (λ (ps : List PieceData). Filled inner_of (witness_at c.args.shape c.args.bytes.now).inners (inners_of c.args.shape ps) (progress_of c.loop-piece.noted).inners c.args.inners.now c.loop-piece.inners) e c.loop-piece.invariant.2 in
     record {
       passed = refl;
-      places = filled-done place_record_of _ c.args.places.now _ _ p;
-      places_behind = p.behind-is;
-      inners = filled-done inner_of _ c.args.inners.now _ _ i;
-      inners_behind = i.behind-is;
+      places = filled_done place_record_of _ c.args.places.now _ _ p;
+      places_behind = p.behind_is;
+      inners = filled_done inner_of _ c.args.inners.now _ _ i;
+      inners_behind = i.behind_is;
     }

@@ -1,23 +1,23 @@
 use Rattle.std.proofs.Common.{◌≡◌, ℕ, ◌≤◌, true, leb, map, length, drop, Ok, sym, ap, ◌∙◌, subst}
 use Rattle.std.proofs.lemmas.Bool.{and_parts, leb-true}
-use Rattle.rows.proofs.Chains.{goes, check-true}
+use Rattle.rows.proofs.Chains.{goes, check_true}
 use Rattle.records.specs.declared.shape.Shape.{Shape}
 use Rattle.sequences.specs.Admitted.{AdmittedInto}
 use Rattle.records.specs.Held.{held, room}
 use Rattle.records.specs.Limits.{most_places, most_inners, most_choices}
 use Rattle.records.specs.Records.{heading_of, shape_of, transition_of}
 use Rattle.formats.specs.Witnesses.{pieces_say, witness_at, witness_memory_says}
-use Rattle.formats.proofs.WitnessParts.{content-pieces}
+use Rattle.formats.proofs.WitnessParts.{content_pieces}
 use Rattle.sequences.proofs.admission.read_into.Goals as goal
 use Rattle.sequences.proofs.admission.read_into.Goals.{After-shape}
 
 module _ (c : After-shape) where
   roomy : (leb most_places c.capacity.result ≡ true) × (leb most_inners c.capacity-2.result ≡ true)
-  roomy = and_parts (leb most_places c.capacity.result) (leb most_inners c.capacity-2.result) (check-true _ _ (sym c.in_ok-memory_test.ensures))
+  roomy = and_parts (leb most_places c.capacity.result) (leb most_inners c.capacity-2.result) (check_true _ _ (sym c.in_ok-memory_test.ensures))
 
   passed : Ok tt ≡ pieces_say c.shape.result c.args.bytes.now
   passed =
-      sym (content-pieces (map transition_of (held c.args.table.now)) (shape_of (heading_of c.args.heading.now)) c.args.bytes.now (sym c.in_ok-tested.ensures))
+      sym (content_pieces (map transition_of (held c.args.table.now)) (shape_of (heading_of c.args.heading.now)) c.args.bytes.now (sym c.in_ok-tested.ensures))
       ∙ ap (λ (z : Shape). pieces_say z c.args.bytes.now) (sym c.shape.ensures)
 
 pub fill-requires : goal.fill-requires

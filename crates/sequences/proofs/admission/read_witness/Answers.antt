@@ -1,8 +1,8 @@
 -- The laws of the format, for the bytes that are read.
 use Rattle.std.proofs.Common.{map, length, sym, subst}
 use Rattle.formats.specs.Placed.{Placed}
-use Rattle.formats.proofs.WitnessPlaces.{placed-admit}
-use Rattle.formats.proofs.WitnessesWritten.{witness-exactly}
+use Rattle.formats.proofs.WitnessPlaces.{placed_admit}
+use Rattle.formats.proofs.WitnessesWritten.{witness_exactly}
 use Rattle.records.specs.Held.{held, room}
 use Rattle.records.specs.Records.{heading_of, shape_of, transition_of}
 use Rattle.sequences.proofs.admission.read_witness.Goals as goal
@@ -15,6 +15,6 @@ returns c =
     record {
       answer = c.read_into.ensures.answer;
       memory = c.read_into.ensures.memory;
-      exactly = witness-exactly transitions shape (record { values = limits.0; choices = limits.1 }) c.args.bytes.now c.bytes_fit.ensures;
-      placed = subst (Placed (length c.args.bytes.now)) (sym c.read_into.ensures.answer) (placed-admit (room c.args.places.now) (room c.args.inners.now) transitions shape c.args.bytes.now);
+      exactly = witness_exactly transitions shape (record { values = limits.0; choices = limits.1 }) c.args.bytes.now c.bytes_fit.ensures;
+      placed = subst (Placed (length c.args.bytes.now)) (sym c.read_into.ensures.answer) (placed_admit (room c.args.places.now) (room c.args.inners.now) transitions shape c.args.bytes.now);
     }

@@ -1,8 +1,8 @@
 -- The laws of the format, for the bytes that are tested.
 use Rattle.std.proofs.Common.{map, length, sym, subst}
 use Rattle.formats.specs.Placed.{Placed}
-use Rattle.formats.proofs.WitnessPlaces.{placed-witness}
-use Rattle.formats.proofs.WitnessesWritten.{witness-exactly}
+use Rattle.formats.proofs.WitnessPlaces.{placed_witness}
+use Rattle.formats.proofs.WitnessesWritten.{witness_exactly}
 use Rattle.records.specs.Held.{held}
 use Rattle.records.specs.Records.{heading_of, shape_of, transition_of}
 use Rattle.sequences.proofs.admission.test_witness.Goals as goal
@@ -14,6 +14,6 @@ returns c =
     let limits = c.args.heading.now.limits in
     record {
       answer = c.tested.ensures;
-      exactly = witness-exactly transitions shape (record { values = limits.0; choices = limits.1 }) c.args.bytes.now c.bytes_fit.ensures;
-      placed = subst (Placed (length c.args.bytes.now)) (sym c.tested.ensures) (placed-witness transitions shape c.args.bytes.now);
+      exactly = witness_exactly transitions shape (record { values = limits.0; choices = limits.1 }) c.args.bytes.now c.bytes_fit.ensures;
+      placed = subst (Placed (length c.args.bytes.now)) (sym c.tested.ensures) (placed_witness transitions shape c.args.bytes.now);
     }

@@ -1,7 +1,7 @@
 use Rattle.std.proofs.Common.{◌≡◌, ℕ, ◌+◌, ◌-◌, ◌≤◌, length, take, drop, refl, ap, ◌∙◌, arith}
 use Rattle.std.proofs.lemmas.List.{length-take-le, length-drop}
 use Rattle.formats.specs.Pieces.{rest_from, piece_end}
-use Rattle.formats.proofs.PieceTests.{no_length, no-rest, found}
+use Rattle.formats.proofs.PieceTests.{no_length, no_rest, found}
 use Rattle.sequences.proofs.piece.piece_at.Goals as goal
 
 pub returns-then-left-lt-LENGTH_BYTES : goal.returns-then-left-lt-LENGTH_BYTES
@@ -10,7 +10,7 @@ returns-then-left-lt-LENGTH_BYTES c = rw c.at.ensures (no_length c.args.kind c.a
 pub returns-then-left-length : goal.returns-then-left-length
 returns-then-left-length c =
     let w = c.from-length.ensures ∙ c.word_at.ensures in
-    rw c.at-then-left-length.ensures (no-rest c.args.kind c.args.input.now c.args.at (omega arith) (omega (arith, w)))
+    rw c.at-then-left-length.ensures (no_rest c.args.kind c.args.input.now c.args.at (omega arith) (omega (arith, w)))
 
 pub returns : goal.returns
 returns c =

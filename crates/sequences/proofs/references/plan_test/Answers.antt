@@ -9,7 +9,7 @@ use Rattle.formats.specs.Pieces.{byte_at, each_says, rest_from}
 use Rattle.records.specs.Records.{transition_of}
 use Rattle.records.specs.Slots.{over_values, stride}
 use Rattle.formats.specs.Witnesses.{named_in, number_from, rows_from, plan_count_from, plan_from, entries, entry_stride, entry_fits, entry_test, plan_says}
-use Rattle.formats.proofs.PieceTests.{each-stops, each_more}
+use Rattle.formats.proofs.PieceTests.{each_stops, each_more}
 use Rattle.sequences.proofs.references.plan_test.Goals as goal
 use Rattle.sequences.proofs.references.plan_test.Goals.{After-word_at-place, After-fault}
 
@@ -27,8 +27,8 @@ module _ (c : After-word_at-place) where
   many = c.from-count.ensures ∙ c.byte_at-2.ensures ∙ ap (byte_at c.args.piece.rest.now) counts
 
 -- an entry lies before the plan's end
-entry-located : (offset from size n e : ℕ) → e < n → rest_from offset + (from + size * (n - 1) + 2) < 2 ^ 64 → rest_from offset + (from + size * e) < 2 ^ 64
-entry-located offset from size n e l h = let m = mul-le size e size (n - 1) (omega arith) (omega arith) in omega (arith, m)
+entry_located : (offset from size n e : ℕ) → e < n → rest_from offset + (from + size * (n - 1) + 2) < 2 ^ 64 → rest_from offset + (from + size * e) < 2 ^ 64
+entry_located offset from size n e l h = let m = mul-le size e size (n - 1) (omega arith) (omega arith) in omega (arith, m)
 
 pub fault-requires : goal.fault-requires
 fault-requires c =
@@ -37,7 +37,7 @@ fault-requires c =
     let p = c.requires in
     let q : rest_from c.args.piece.offset + (rows_from + c.stride-stride.result * c.from-rows.result + 1 + (2 + c.stride-stride.result) * (c.from-count.result - 1) + 2) < 2 ^ 64 =
     rw (sized d, f, many d) p in
-    entry-located c.args.piece.offset (rows_from + c.stride-stride.result * c.from-rows.result + 1) (2 + c.stride-stride.result) c.from-count.result c.loop-e.e c.loop-e-test.true q
+    entry_located c.args.piece.offset (rows_from + c.stride-stride.result * c.from-rows.result + 1) (2 + c.stride-stride.result) c.from-count.result c.loop-e.e c.loop-e-test.true q
 
 -- the tests of the loop, and those of the definition
 tests : (c : After-word_at-place) → ℕ → Said
@@ -66,7 +66,7 @@ returns-in_err-require c =
     let p = err_from_is_err_and c.from_residual.result c.from_residual.ensures.1 in
     let d = (goal.at.returns-in_err-require c).After-word_at-place in
     let t = tested (goal.at.returns-in_err-require c).After-fault in
-    rw (p.1, p.2) (each-stops (tests d) c.from-count.result c.loop-e.e _ c.loop-e-test.true c.loop-e.invariant (c.in_err-require.ensures ∙ t) ∙ plan d)
+    rw (p.1, p.2) (each_stops (tests d) c.from-count.result c.loop-e.e _ c.loop-e-test.true c.loop-e.invariant (c.in_err-require.ensures ∙ t) ∙ plan d)
 
 pub loop-e-preserved : goal.loop-e-preserved
 unfolding tests

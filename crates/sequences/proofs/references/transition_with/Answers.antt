@@ -4,12 +4,12 @@ use Rattle.records.specs.declared.records.Transition.{Transition}
 use Rattle.records.specs.Held.{held}
 use Rattle.records.specs.Lists.{at, first_with, place_of}
 use Rattle.records.specs.Records.{TransitionData, transition_of}
-use Rattle.records.proofs.Fronts.{found-place, first_plain}
+use Rattle.records.proofs.Fronts.{found_place, first_plain}
 use Rattle.sequences.proofs.references.transition_with.Goals as goal
 
 -- what the search of the register tells
 told : (n : ℕ) (xs : List Transition) (o : Option ℕ) → o ≡ place_of (λ (t : Transition). t.number) n 0 xs → MatchOption o (first_with (λ (t : Transition). t.number) n xs ≡ None) (λ j. (0 ≤ j) × (first_with (λ (t : Transition). t.number) n xs ≡ at (j - 0) xs))
-told n xs o e = subst (λ (p : Option ℕ). MatchOption p (first_with (λ (t : Transition). t.number) n xs ≡ None) (λ j. (0 ≤ j) × (first_with (λ (t : Transition). t.number) n xs ≡ at (j - 0) xs))) (sym e) (found-place (λ (t : Transition). t.number) n 0 xs)
+told n xs o e = subst (λ (p : Option ℕ). MatchOption p (first_with (λ (t : Transition). t.number) n xs ≡ None) (λ j. (0 ≤ j) × (first_with (λ (t : Transition). t.number) n xs ≡ at (j - 0) xs))) (sym e) (found_place (λ (t : Transition). t.number) n 0 xs)
 
 plain : (n : ℕ) (xs : List Transition) → option_map transition_of (first_with (λ (t : Transition). t.number) n xs) ≡ first_with (λ (t : TransitionData). t.number) n (map transition_of xs)
 plain n xs = first_plain transition_of (λ (t : Transition). t.number) (λ (t : TransitionData). t.number) n xs (λ t. refl)

@@ -6,8 +6,8 @@ use Rattle.rows.specs.Made.{FirstOver}
 use Rattle.rows.specs.Shapes.{Within}
 use Rattle.records.specs.Slots.{slot_of}
 use Rattle.formats.specs.Pieces.{rest_from}
-use Rattle.formats.proofs.PieceTests.{given, given-fault}
-use Rattle.formats.proofs.RowItems.{row_written, row-too-large}
+use Rattle.formats.proofs.PieceTests.{given, given_fault}
+use Rattle.formats.proofs.RowItems.{row_written, row_too_large}
 use Rattle.sequences.proofs.stored.row_at.Goals as goal
 
 pub returns-in-Ok : goal.returns-in-Ok
@@ -21,4 +21,4 @@ returns-in-Err g c =
     let h = subst (λ (row : Numbers). FirstOver (magnitude_of WrittenNumber) row c.in-Err.item) c.numbers_at.ensures c.in-Err.ensures in
     let s : c.from-in-Err.result ≡ unwrap_or (slot_of c.args.shape c.in-Err.item) 0 =
     c.from-in-Err.ensures ∙ c.unwrap_or-slot.ensures ∙ ap (λ o. unwrap_or o 0) (c.slot.ensures ∙ ap (slot_of c.args.shape) c.from.ensures) in
-    rw c.at.ensures (given-fault _ _ _ (row-too-large c.args.kind c.args.shape c.args.piece.offset c.args.piece.rest.now c.args.at c.in-Err.item _ h (ap (λ (k : ℕ). rest_from c.args.piece.offset + c.args.at + 4 * k) s)))
+    rw c.at.ensures (given_fault _ _ _ (row_too_large c.args.kind c.args.shape c.args.piece.offset c.args.piece.rest.now c.args.at c.in-Err.item _ h (ap (λ (k : ℕ). rest_from c.args.piece.offset + c.args.at + 4 * k) s)))

@@ -7,14 +7,14 @@ use Rattle.rows.specs.declared.numbers.Numbers.{Numbers}
 use Rattle.records.specs.Bounded.{listed}
 use Rattle.formats.specs.StoredRows.{row_at, row_says, rows_at, rows_say}
 use Rattle.records.specs.Slots.{stride}
-use Rattle.formats.proofs.PieceTests.{each-stops, each_more, given, given-fault, given-ok, given-err}
-use Rattle.formats.proofs.RowItems.{stride-within}
+use Rattle.formats.proofs.PieceTests.{each_stops, each_more, given, given_fault, given_ok, given_err}
+use Rattle.formats.proofs.RowItems.{stride_within}
 use Rattle.sequences.proofs.stored.rows_at.Goals as goal
 
 pub overflow_mul-stride : goal.overflow_mul-stride
 overflow_mul-stride g c =
     let s = c.stride-stride.ensures in
-    let w = stride-within c.stride-stride.result c.loop-i.i c.args.count c.loop-i-test.true in
+    let w = stride_within c.stride-stride.result c.loop-i.i c.args.count c.loop-i-test.true in
     let e = ap (λ (k : ℕ). k * c.args.count) s in
     let p = c.requires.located in
     omega (arith, w, e, p)
@@ -22,7 +22,7 @@ overflow_mul-stride g c =
 pub overflow_add-from : goal.overflow_add-from
 overflow_add-from g c =
     let s = c.stride-stride.ensures in
-    let w = stride-within c.stride-stride.result c.loop-i.i c.args.count c.loop-i-test.true in
+    let w = stride_within c.stride-stride.result c.loop-i.i c.args.count c.loop-i-test.true in
     let e = ap (λ (k : ℕ). k * c.args.count) s in
     let p = c.requires.located in
     omega (arith, w, e, p)
@@ -30,7 +30,7 @@ overflow_add-from g c =
 pub row_at-requires : goal.row_at-requires
 row_at-requires g c =
     let s = c.stride-stride.ensures in
-    let w = stride-within c.stride-stride.result c.loop-i.i c.args.count c.loop-i-test.true in
+    let w = stride_within c.stride-stride.result c.loop-i.i c.args.count c.loop-i-test.true in
     let e = ap (λ (k : ℕ). k * c.args.count) s in
     let p = c.requires.located in
     omega (arith, w, e, p, s)
@@ -42,14 +42,14 @@ pub returns-in_err-row : goal.returns-in_err-row
 returns-in_err-row g c =
     let p = err_from_is_err_and c.from_residual.result c.from_residual.ensures.1 in
     let s : Err c.in_err-row.field-0.0 ≡ row_says c.args.kind c.args.shape c.args.piece.offset c.args.piece.rest.now (c.args.from + stride c.args.shape * c.loop-i.i) =
-    given-err _ _ _ c.in_err-row.ensures ∙ ap (λ (k : ℕ). row_says c.args.kind c.args.shape c.args.piece.offset c.args.piece.rest.now (c.args.from + k * c.loop-i.i)) c.stride-stride.ensures in
-    rw (p.1, p.2) (given-fault _ _ _ (each-stops (λ i. row_says c.args.kind c.args.shape c.args.piece.offset c.args.piece.rest.now (c.args.from + stride c.args.shape * i)) c.args.count c.loop-i.i _ c.loop-i-test.true c.loop-i.invariant.0 s))
+    given_err _ _ _ c.in_err-row.ensures ∙ ap (λ (k : ℕ). row_says c.args.kind c.args.shape c.args.piece.offset c.args.piece.rest.now (c.args.from + k * c.loop-i.i)) c.stride-stride.ensures in
+    rw (p.1, p.2) (given_fault _ _ _ (each_stops (λ i. row_says c.args.kind c.args.shape c.args.piece.offset c.args.piece.rest.now (c.args.from + stride c.args.shape * i)) c.args.count c.loop-i.i _ c.loop-i-test.true c.loop-i.invariant.0 s))
 
 pub loop-i-preserved : goal.loop-i-preserved
 loop-i-preserved g c =
     let test = λ (i : ℕ). row_says c.args.kind c.args.shape c.args.piece.offset c.args.piece.rest.now (c.args.from + stride c.args.shape * i) in
     let row = λ (i : ℕ). row_at c.args.shape c.args.piece.rest.now (c.args.from + stride c.args.shape * i) in
-    let o = given-ok _ _ _ c.in_ok-row.ensures in
+    let o = given_ok _ _ _ c.in_ok-row.ensures in
     let s : Ok tt ≡ test c.loop-i.i = o.0 ∙ ap (λ (k : ℕ). row_says c.args.kind c.args.shape c.args.piece.offset c.args.piece.rest.now (c.args.from + k * c.loop-i.i)) c.stride-stride.ensures in
     let v : g.T.Written.plain c.in_ok-row.row ≡ row c.loop-i.i = o.1 ∙ ap (λ (k : ℕ). row_at c.args.shape c.args.piece.rest.now (c.args.from + k * c.loop-i.i)) c.stride-stride.ensures in
     let n : length (listed c.loop-i.rows) ≡ c.loop-i.i = sym (length-map (listed c.loop-i.rows) g.T.Written.plain) ∙ ap length c.loop-i.invariant.1 ∙ length-map-range_with_len row 0 c.loop-i.i in
@@ -60,14 +60,14 @@ loop-i-preserved g c =
           ∙ map_push g.T.Written.plain (listed c.loop-i.rows) c.in_ok-row.row
           ∙ ap (λ (ys : List Numbers). ys ++ (g.T.Written.plain c.in_ok-row.row ∷ [])) c.loop-i.invariant.1
           ∙ ap (λ (y : Numbers). rows_at c.args.shape c.args.piece.rest.now c.args.from c.loop-i.i ++ (y ∷ [])) v
-          ∙ sym (map-range_with_len_more row 0 c.loop-i.i c.loop-i.i (zero-plus c.loop-i.i)),
+          ∙ sym (map-range_with_len_more row 0 c.loop-i.i c.loop-i.i (zero_plus c.loop-i.i)),
     )
   where
     below : {k i n m : ℕ} → k ≡ i → i < n → n ≤ m → k < m
     below e h l = omega arith
 
-    zero-plus : (i : ℕ) → 0 + i ≡ i
-    zero-plus i = omega arith
+    zero_plus : (i : ℕ) → 0 + i ≡ i
+    zero_plus i = omega arith
 
 pub returns : goal.returns
 returns g c =

@@ -6,8 +6,8 @@ use Rattle.records.specs.Limits.{most_values, most_transitions}
 use Rattle.formats.specs.Pieces.{pieces_from, piece_end}
 use Rattle.records.specs.Records.{heading_of, shape_of}
 use Rattle.formats.specs.Tables.{heading_shape, heading_rest, heading_at, heading_says, transitions_say, content_says, table_at}
-use Rattle.formats.proofs.HeadingLimits.{heading-values}
-use Rattle.formats.proofs.PieceTests.{given, given-fault, given-ok, given-err}
+use Rattle.formats.proofs.HeadingLimits.{heading_values}
+use Rattle.formats.proofs.PieceTests.{given, given_fault, given_ok, given_err}
 use Rattle.sequences.proofs.table.content_test.Goals as goal
 use Rattle.sequences.proofs.table.content_test.Goals.{After-shape}
 
@@ -15,25 +15,25 @@ pub returns-in_err-piece : goal.returns-in_err-piece
 unfolding content_says
 returns-in_err-piece c =
     let p = err_from_is_err_and c.from_residual.result c.from_residual.ensures.1 in
-    rw (p.1, p.2) (given-fault _ _ _ (stops _ _ _ c.in_err-piece.ensures))
+    rw (p.1, p.2) (given_fault _ _ _ (stops _ _ _ c.in_err-piece.ensures))
 
 pub returns-in_err-heading : goal.returns-in_err-heading
 unfolding content_says
 returns-in_err-heading c =
     let p = err_from_is_err_and c.from_residual-in_err-heading.result c.from_residual-in_err-heading.ensures.1 in
     let i = c.in_ok-piece.ensures in
-    let h = given-err _ _ _ c.in_err-heading.ensures ∙ ap (λ (o : ℕ). heading_says o c.in_ok-piece.piece.rest.now) i.1.offset ∙ ap (heading_says pieces_from) i.1.rest in
-    rw (p.1, p.2) (given-fault _ _ _ (goes _ _ _ i.0 (stops _ _ _ h)))
+    let h = given_err _ _ _ c.in_err-heading.ensures ∙ ap (λ (o : ℕ). heading_says o c.in_ok-piece.piece.rest.now) i.1.offset ∙ ap (heading_says pieces_from) i.1.rest in
+    rw (p.1, p.2) (given_fault _ _ _ (goes _ _ _ i.0 (stops _ _ _ h)))
 
 -- the heading that was read, and its shape
 module _ (c : After-shape) where
   tested : Ok tt ≡ heading_says pieces_from (heading_rest c.args.bytes.now)
   tested =
       let i = c.in_ok-piece.ensures in
-      (given-ok _ _ _ c.in_ok-heading.ensures).0 ∙ ap (λ (o : ℕ). heading_says o c.in_ok-piece.piece.rest.now) i.1.offset ∙ ap (heading_says pieces_from) i.1.rest
+      (given_ok _ _ _ c.in_ok-heading.ensures).0 ∙ ap (λ (o : ℕ). heading_says o c.in_ok-piece.piece.rest.now) i.1.offset ∙ ap (heading_says pieces_from) i.1.rest
 
   read : heading_of c.in_ok-heading.heading ≡ heading_at (heading_rest c.args.bytes.now)
-  read = (given-ok _ _ _ c.in_ok-heading.ensures).1 ∙ ap heading_at c.in_ok-piece.ensures.1.rest
+  read = (given_ok _ _ _ c.in_ok-heading.ensures).1 ∙ ap heading_at c.in_ok-piece.ensures.1.rest
 
   shaped : c.shape.result ≡ heading_shape (heading_rest c.args.bytes.now)
   shaped = c.shape.ensures ∙ ap shape_of read
@@ -42,7 +42,7 @@ pub transitions_test-requires : goal.transitions_test-requires
 transitions_test-requires c =
     record {
       within = subst (λ (n : ℕ). n ≤ length c.args.bytes.now) (sym c.transitions_from.ensures) c.in_ok-piece.ensures.1.ends;
-      values = subst (λ (z : Shape). z.values ≤ most_values) (sym (shaped c)) (heading-values pieces_from (heading_rest c.args.bytes.now) (sym (tested c))).1;
+      values = subst (λ (z : Shape). z.values ≤ most_values) (sym (shaped c)) (heading_values pieces_from (heading_rest c.args.bytes.now) (sym (tested c))).1;
     }
 
 -- the test of the transitions, in the words of the definition
@@ -56,7 +56,7 @@ unfolding content_says
 returns-in_err-transitions_test c =
     let p = err_from_is_err_and c.from_residual-in_err-transitions_test.result c.from_residual-in_err-transitions_test.ensures.1 in
     let d = (goal.at.returns-in_err-transitions_test c).After-shape in
-    rw (p.1, p.2) (given-fault _ _ _ (goes _ _ _ c.in_ok-piece.ensures.0 (goes _ _ _ (tested d) (c.in_err-transitions_test.ensures ∙ tests d))))
+    rw (p.1, p.2) (given_fault _ _ _ (goes _ _ _ c.in_ok-piece.ensures.0 (goes _ _ _ (tested d) (c.in_err-transitions_test.ensures ∙ tests d))))
 
 pub returns : goal.returns
 unfolding content_says table_at

@@ -1,6 +1,6 @@
 -- The laws of the format, for the bytes that are read.
-use Rattle.formats.proofs.FaultPlaces.{placed-open}
-use Rattle.formats.proofs.TablesWritten.{table-exactly}
+use Rattle.formats.proofs.FaultPlaces.{placed_open}
+use Rattle.formats.proofs.TablesWritten.{table_exactly}
 use Rattle.records.specs.Held.{room}
 use Rattle.sequences.proofs.table.read_table.Goals as goal
 
@@ -8,6 +8,6 @@ pub returns : goal.returns
 returns c = record {
   answer = c.read_into.ensures.answer;
   memory = c.read_into.ensures.memory;
-  exactly = table-exactly c.args.bytes.now c.bytes_fit.ensures;
-  placed = placed-open (room c.args.transitions.now) c.args.places c.args.inners c.args.bytes.now;
+  exactly = table_exactly c.args.bytes.now c.bytes_fit.ensures;
+  placed = placed_open (room c.args.transitions.now) c.args.places c.args.inners c.args.bytes.now;
 }

@@ -11,10 +11,10 @@ use Rattle.records.specs.Records.{EntryData, entry_of}
 use Rattle.formats.specs.StoredRows.{row_at, row_says}
 use Rattle.records.specs.Slots.{over_values, stride}
 use Rattle.formats.specs.Witnesses.{entry_from, entry_stride, test_from, entry_at, tested_at, tested_say}
-use Rattle.records.proofs.Fronts.{took-held}
-use Rattle.formats.proofs.PieceTests.{each-stops, each_more, given, given-fault, given-ok, given-err}
-use Rattle.sequences.proofs.RecordsSame.{same-entry}
-use Rattle.formats.proofs.RowItems.{stride-within}
+use Rattle.records.proofs.Fronts.{took_held}
+use Rattle.formats.proofs.PieceTests.{each_stops, each_more, given, given_fault, given_ok, given_err}
+use Rattle.sequences.proofs.RecordsSame.{same_entry}
+use Rattle.formats.proofs.RowItems.{stride_within}
 use Rattle.sequences.proofs.witness.tested_from.Goals as goal
 use Rattle.sequences.proofs.witness.tested_from.Goals.{In-loop-i}
 
@@ -28,7 +28,7 @@ module _ (c : In-loop-i) where
 
   before : rest_from c.args.piece.offset + (c.args.from + (2 + c.stride-stride.result) * c.loop-i.i) + entry_stride c.args.shape < 2 ^ 64
   before =
-      let w = stride-within (entry_stride c.args.shape) c.loop-i.i c.args.count c.loop-i-test.true in
+      let w = stride_within (entry_stride c.args.shape) c.loop-i.i c.args.count c.loop-i-test.true in
       let p = c.requires.located in
       omega (arith, w, p, placed)
 
@@ -51,15 +51,15 @@ pub returns-in_err-test : goal.returns-in_err-test
 returns-in_err-test c =
     let p = err_from_is_err_and c.from_residual.result c.from_residual.ensures.1 in
     let d = (goal.at.returns-in_err-test c).In-loop-i in
-    let s = given-err _ _ _ c.in_err-test.ensures
+    let s = given_err _ _ _ c.in_err-test.ensures
     ∙ ap (λ (z : Shape). row_says WitnessWritten z c.args.piece.offset c.args.piece.rest.now (c.args.from + (2 + c.stride-stride.result) * c.loop-i.i + 2)) c.over_values-plain.ensures
     ∙ ap (λ (k : ℕ). row_says WitnessWritten (over_values c.args.shape) c.args.piece.offset c.args.piece.rest.now (k + 2)) (placed d) in
-    rw (p.1, p.2) (given-fault _ _ _ (each-stops (λ e. row_says WitnessWritten (over_values c.args.shape) c.args.piece.offset c.args.piece.rest.now (test_from c.args.shape c.args.from e)) c.args.count c.loop-i.i _ c.loop-i-test.true c.loop-i.invariant.0 s))
+    rw (p.1, p.2) (given_fault _ _ _ (each_stops (λ e. row_says WitnessWritten (over_values c.args.shape) c.args.piece.offset c.args.piece.rest.now (test_from c.args.shape c.args.from e)) c.args.count c.loop-i.i _ c.loop-i-test.true c.loop-i.invariant.0 s))
 
 pub loop-i-preserved : goal.loop-i-preserved
 loop-i-preserved c =
     let d = (goal.at.loop-i-preserved c).In-loop-i in
-    let o = given-ok _ _ _ c.in_ok-test.ensures in
+    let o = given_ok _ _ _ c.in_ok-test.ensures in
     let s = o.0
     ∙ ap (λ (z : Shape). row_says WitnessWritten z c.args.piece.offset c.args.piece.rest.now (c.args.from + (2 + c.stride-stride.result) * c.loop-i.i + 2)) c.over_values-plain.ensures
     ∙ ap (λ (k : ℕ). row_says WitnessWritten (over_values c.args.shape) c.args.piece.offset c.args.piece.rest.now (k + 2)) (placed d) in
@@ -70,20 +70,20 @@ loop-i-preserved c =
     let row = entry_at c.args.shape c.args.piece.rest.now c.args.from in
     let n : length (listed c.loop-i.entries) ≡ c.loop-i.i = sym (length-map (listed c.loop-i.entries) entry_of) ∙ ap length c.loop-i.invariant.1 ∙ length-map-range_with_len row 0 c.loop-i.i in
     let y : EntryData = record { transition = c.word_at-transition.result; test = c.in_ok-test.test.numbers } in
-    let l = took-held _ _ _ _ _ _ c.push.ensures.took (below n c.loop-i-test.true c.requires.room) c.push.ensures.listed in (
+    let l = took_held _ _ _ _ _ _ c.push.ensures.took (below n c.loop-i-test.true c.requires.room) c.push.ensures.listed in (
       each_more (λ e. row_says WitnessWritten (over_values c.args.shape) c.args.piece.offset c.args.piece.rest.now (test_from c.args.shape c.args.from e)) c.loop-i.i c.loop-i.invariant.0 s,
       ap (map entry_of) l
           ∙ map_push entry_of (listed c.loop-i.entries) _
           ∙ ap (λ (ys : List EntryData). ys ++ (y ∷ [])) c.loop-i.invariant.1
-          ∙ ap (λ (y : EntryData). tested_at c.args.shape c.args.piece.rest.now c.args.from c.loop-i.i ++ (y ∷ [])) (same-entry w v)
-          ∙ sym (map-range_with_len_more row 0 c.loop-i.i c.loop-i.i (zero-plus c.loop-i.i)),
+          ∙ ap (λ (y : EntryData). tested_at c.args.shape c.args.piece.rest.now c.args.from c.loop-i.i ++ (y ∷ [])) (same_entry w v)
+          ∙ sym (map-range_with_len_more row 0 c.loop-i.i c.loop-i.i (zero_plus c.loop-i.i)),
     )
   where
     below : {k i n m : ℕ} → k ≡ i → i < n → n ≤ m → k < m
     below e h l = omega arith
 
-    zero-plus : (i : ℕ) → 0 + i ≡ i
-    zero-plus i = omega arith
+    zero_plus : (i : ℕ) → 0 + i ≡ i
+    zero_plus i = omega arith
 
 pub returns : goal.returns
 returns c =

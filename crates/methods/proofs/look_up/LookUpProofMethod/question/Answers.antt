@@ -3,24 +3,24 @@ use Rattle.std.proofs.lemmas.Result.{err_from_is_err_and}
 use Rattle.rows.specs.declared.fault.Fault.{Fault}
 use Rattle.methods.specs.Questions.{asked}
 use Rattle.methods.specs.LooksUp.{search_says, look_up_says, LookUpYes}
-use Rattle.methods.proofs.StatedFaults.{look-up-faults}
-use Rattle.methods.proofs.Asked.{asked-many, asked-stops, asked-goes, exactly}
-use Rattle.methods.proofs.Listed.{look-up-only, look-up-if}
+use Rattle.methods.proofs.StatedFaults.{look_up_faults}
+use Rattle.methods.proofs.Asked.{asked_many, asked_stops, asked_goes, exactly}
+use Rattle.methods.proofs.Listed.{look_up_only, look_up_if}
 use Rattle.methods.proofs.look_up.LookUpProofMethod.question.Goals as goal
 
 pub returns-then-count-sheet : goal.returns-then-count-sheet
 returns-then-count-sheet c =
-    let a = ap (λ (f : Fault). Err f) c.of.ensures ∙ asked-many c.args.count c.args.sheet.now c.args.goal.now c.args.certificate.now look_up_says c.if-count-sheet.true in
-    record { answer = a; kept = refl; same = refl; stated = look-up-faults _ _ _ _ _ a; exactly = exactly _ _ _ _ look_up_says LookUpYes _ a look-up-only look-up-if }
+    let a = ap (λ (f : Fault). Err f) c.of.ensures ∙ asked_many c.args.count c.args.sheet.now c.args.goal.now c.args.certificate.now look_up_says c.if-count-sheet.true in
+    record { answer = a; kept = refl; same = refl; stated = look_up_faults _ _ _ _ _ a; exactly = exactly _ _ _ _ look_up_says LookUpYes _ a look_up_only look_up_if }
 
 pub returns-in_err-opening : goal.returns-in_err-opening
 returns-in_err-opening c =
     let p = err_from_is_err_and c.from_residual.result c.from_residual.ensures.1 in
     let a : c.from_residual.result ≡ asked look_up_says c.args.count c.args.sheet.now c.args.goal.now c.args.certificate.now =
-    rw (p.1, p.2) (asked-stops c.args.count c.args.sheet.now c.args.goal.now c.args.certificate.now (λ q. search_says q.facts q.goal q.certificate) _ c.if-count-sheet.false c.in_err-opening.ensures) in
-    record { answer = a; kept = refl; same = refl; stated = look-up-faults _ _ _ _ _ a; exactly = exactly _ _ _ _ look_up_says LookUpYes _ a look-up-only look-up-if }
+    rw (p.1, p.2) (asked_stops c.args.count c.args.sheet.now c.args.goal.now c.args.certificate.now (λ q. search_says q.facts q.goal q.certificate) _ c.if-count-sheet.false c.in_err-opening.ensures) in
+    record { answer = a; kept = refl; same = refl; stated = look_up_faults _ _ _ _ _ a; exactly = exactly _ _ _ _ look_up_says LookUpYes _ a look_up_only look_up_if }
 
 pub returns : goal.returns
 returns c =
-    let a = asked-goes c.args.count c.args.sheet.now c.args.goal.now c.args.certificate.now (λ q. search_says q.facts q.goal q.certificate) _ c.if-count-sheet.false c.in_ok-opening.ensures c.search_test.ensures in
-    record { answer = a; kept = refl; same = refl; stated = look-up-faults _ _ _ _ _ a; exactly = exactly _ _ _ _ look_up_says LookUpYes _ a look-up-only look-up-if }
+    let a = asked_goes c.args.count c.args.sheet.now c.args.goal.now c.args.certificate.now (λ q. search_says q.facts q.goal q.certificate) _ c.if-count-sheet.false c.in_ok-opening.ensures c.search_test.ensures in
+    record { answer = a; kept = refl; same = refl; stated = look_up_faults _ _ _ _ _ a; exactly = exactly _ _ _ _ look_up_says LookUpYes _ a look_up_only look_up_if }

@@ -7,7 +7,7 @@ use Rattle.records.specs.Records.{HeadingData, inner_of}
 use Rattle.semantics.specs.declared.obligation.Obligation.TheVariants.{Consecution}
 use Rattle.semantics.specs.Enumerated.{consecutions_of}
 use Rattle.obligations.specs.Questions.{table_of, witness_of}
-use Rattle.obligations.proofs.CountedLists.{present, plain-found, group-found, group-more, through-all}
+use Rattle.obligations.proofs.CountedLists.{present, plain_found, group_found, group_more, through_all}
 use Rattle.obligations.proofs.listing.counting.consecution_at.Goals as goal
 use Rattle.obligations.proofs.listing.counting.consecution_at.Goals.{After-target_rows-rows}
 
@@ -16,7 +16,7 @@ unwrap-inner-requires c = present (held c.args.inners.now) c.loop-at.at c.get.re
 
 module _ (c : After-target_rows-rows) where
   found : Some (inner_of c.unwrap-inner.result) ≡ at c.loop-at.at (map inner_of (held c.args.inners.now))
-  found = plain-found inner_of (held c.args.inners.now) c.loop-at.at c.get.result c.unwrap-inner.result c.get.ensures c.unwrap-inner.ensures
+  found = plain_found inner_of (held c.args.inners.now) c.loop-at.at c.get.result c.unwrap-inner.result c.get.ensures c.unwrap-inner.ensures
 
   -- the rows that the code counts
   group : (heading : HeadingData) → map (Consecution c.unwrap-inner.result.number) (range_with_len 0 c.target_rows-rows.result) ≡ consecutions_of (table_of heading c.args.table.now) (witness_of c.args.places.now c.args.inners.now) (inner_of c.unwrap-inner.result)
@@ -25,14 +25,14 @@ module _ (c : After-target_rows-rows) where
 pub returns-then-left-rows : goal.returns-then-left-rows
 returns-then-left-rows c heading =
     let d = (goal.at.returns-then-left-rows c).After-target_rows-rows in
-    group-found _ (map inner_of (held c.args.inners.now)) c.args.index c.loop-at.at c.loop-at.left (c.loop-at.invariant heading) (inner_of c.unwrap-inner.result) (Consecution c.unwrap-inner.result.number) c.target_rows-rows.result (found d) (group d heading) c.if-left-rows.true
+    group_found _ (map inner_of (held c.args.inners.now)) c.args.index c.loop-at.at c.loop-at.left (c.loop-at.invariant heading) (inner_of c.unwrap-inner.result) (Consecution c.unwrap-inner.result.number) c.target_rows-rows.result (found d) (group d heading) c.if-left-rows.true
 
 pub loop-at-preserved : goal.loop-at-preserved
 loop-at-preserved c heading =
     let d = (goal.at.loop-at-preserved c).After-target_rows-rows in
-    group-more _ (map inner_of (held c.args.inners.now)) c.args.index c.loop-at.at c.loop-at.left (c.loop-at.invariant heading) (inner_of c.unwrap-inner.result) (Consecution c.unwrap-inner.result.number) c.target_rows-rows.result (found d) (group d heading) c.if-left-rows.false
+    group_more _ (map inner_of (held c.args.inners.now)) c.args.index c.loop-at.at c.loop-at.left (c.loop-at.invariant heading) (inner_of c.unwrap-inner.result) (Consecution c.unwrap-inner.result.number) c.target_rows-rows.result (found d) (group d heading) c.if-left-rows.false
 
 pub returns : goal.returns
 returns c heading =
     let n = c.len-at-end.ensures.value ∙ sym (length-map (held c.args.inners.now) inner_of) in
-    through-all _ (map inner_of (held c.args.inners.now)) c.args.index c.loop-at.at c.loop-at.left (c.loop-at.invariant heading) (subst (λ (k : ℕ). k ≤ c.loop-at.at) n c.loop-at-test.false)
+    through_all _ (map inner_of (held c.args.inners.now)) c.args.index c.loop-at.at c.loop-at.left (c.loop-at.invariant heading) (subst (λ (k : ℕ). k ≤ c.loop-at.at) n c.loop-at-test.false)

@@ -9,7 +9,7 @@ use Rattle.records.specs.Records.{HeadingData, transition_of, place_record_of, i
 use Rattle.semantics.specs.declared.obligation.Obligation.{Obligation}
 use Rattle.semantics.specs.Enumerated.{gathered, consecutions_of, restrictions_of, guards_of, exits_of, obligations_of}
 use Rattle.obligations.specs.Questions.{table_of, witness_of}
-use Rattle.obligations.proofs.CountedLists.{at-front, at-behind, at-end}
+use Rattle.obligations.proofs.CountedLists.{at_front_lem, at_behind, at_end}
 use Rattle.obligations.proofs.RelatedQuestions.{obliges}
 use Rattle.obligations.proofs.listing.counting.obligation_at.Goals as goal
 use Rattle.obligations.proofs.listing.counting.obligation_at.Goals.{In-Left, In-Left-restriction_at, In-Left-guard_at}
@@ -32,47 +32,47 @@ past_first : (c : In-Left) (heading : HeadingData) (r : Option Obligation) →
     r ≡ at c.in-Left.left (restrictions c.args.inners.now ++ (guards heading c.args.table.now c.args.places.now ++ exits c.args.table.now c.args.places.now c.args.inners.now)) →
     r ≡ at c.args.index (obligations_of (table_of heading c.args.table.now) (witness_of c.args.places.now c.args.inners.now))
 unfolding obligations_of
-past_first c heading r e = e ∙ sym (at-behind c.args.index c.in-Left.left (consecutions heading c.args.table.now c.args.places.now c.args.inners.now) _ (c.in-Left.ensures heading))
+past_first c heading r e = e ∙ sym (at_behind c.args.index c.in-Left.left (consecutions heading c.args.table.now c.args.places.now c.args.inners.now) _ (c.in-Left.ensures heading))
 
-past-second : (c : In-Left-restriction_at) (heading : HeadingData) (r : Option Obligation) →
+past_second : (c : In-Left-restriction_at) (heading : HeadingData) (r : Option Obligation) →
     r ≡ at c.in-Left-restriction_at.left (guards heading c.args.table.now c.args.places.now ++ exits c.args.table.now c.args.places.now c.args.inners.now) →
     r ≡ at c.args.index (obligations_of (table_of heading c.args.table.now) (witness_of c.args.places.now c.args.inners.now))
-past-second c heading r e =
+past_second c heading r e =
     past_first (goal.at.In-Left-restriction_at c).In-Left heading r
-    (e ∙ sym (at-behind c.in-Left.left c.in-Left-restriction_at.left (restrictions c.args.inners.now) _ c.in-Left-restriction_at.ensures))
+    (e ∙ sym (at_behind c.in-Left.left c.in-Left-restriction_at.left (restrictions c.args.inners.now) _ c.in-Left-restriction_at.ensures))
 
-past-third : (c : In-Left-guard_at) (heading : HeadingData) (r : Option Obligation) →
+past_third : (c : In-Left-guard_at) (heading : HeadingData) (r : Option Obligation) →
     r ≡ at c.in-Left-guard_at.left (exits c.args.table.now c.args.places.now c.args.inners.now) →
     r ≡ at c.args.index (obligations_of (table_of heading c.args.table.now) (witness_of c.args.places.now c.args.inners.now))
-past-third c heading r e =
-    past-second (goal.at.In-Left-guard_at c).In-Left-restriction_at heading r
-    (e ∙ sym (at-behind c.in-Left-restriction_at.left c.in-Left-guard_at.left (guards heading c.args.table.now c.args.places.now) _ (c.in-Left-guard_at.ensures heading)))
+past_third c heading r e =
+    past_second (goal.at.In-Left-guard_at c).In-Left-restriction_at heading r
+    (e ∙ sym (at_behind c.in-Left-restriction_at.left c.in-Left-guard_at.left (guards heading c.args.table.now c.args.places.now) _ (c.in-Left-guard_at.ensures heading)))
 
 pub returns-in-At : goal.returns-in-At
 unfolding obligations_of
 returns-in-At c =
-    let v = λ (heading : HeadingData). sym (at-front c.args.index (consecutions heading c.args.table.now c.args.places.now c.args.inners.now) _ c.in-At.obligation (c.in-At.ensures heading)) in
+    let v = λ (heading : HeadingData). sym (at_front_lem c.args.index (consecutions heading c.args.table.now c.args.places.now c.args.inners.now) _ c.in-At.obligation (c.in-At.ensures heading)) in
     record { value = v; related = obliges c.args.table.now c.args.places.now c.args.inners.now c.args.index _ v }
 
 pub returns-in-At-restriction_at : goal.returns-in-At-restriction_at
 returns-in-At-restriction_at c =
     let v = λ (heading : HeadingData). past_first (goal.at.returns-in-At-restriction_at c).In-Left heading _
-    (sym (at-front c.in-Left.left (restrictions c.args.inners.now) _ c.in-At-restriction_at.obligation c.in-At-restriction_at.ensures)) in
+    (sym (at_front_lem c.in-Left.left (restrictions c.args.inners.now) _ c.in-At-restriction_at.obligation c.in-At-restriction_at.ensures)) in
     record { value = v; related = obliges c.args.table.now c.args.places.now c.args.inners.now c.args.index _ v }
 
 pub returns-in-At-guard_at : goal.returns-in-At-guard_at
 returns-in-At-guard_at c =
-    let v = λ (heading : HeadingData). past-second (goal.at.returns-in-At-guard_at c).In-Left-restriction_at heading _
-    (sym (at-front c.in-Left-restriction_at.left (guards heading c.args.table.now c.args.places.now) _ c.in-At-guard_at.obligation (c.in-At-guard_at.ensures heading))) in
+    let v = λ (heading : HeadingData). past_second (goal.at.returns-in-At-guard_at c).In-Left-restriction_at heading _
+    (sym (at_front_lem c.in-Left-restriction_at.left (guards heading c.args.table.now c.args.places.now) _ c.in-At-guard_at.obligation (c.in-At-guard_at.ensures heading))) in
     record { value = v; related = obliges c.args.table.now c.args.places.now c.args.inners.now c.args.index _ v }
 
 pub returns-in-At-exit_at : goal.returns-in-At-exit_at
 returns-in-At-exit_at c =
-    let v = λ (heading : HeadingData). past-third (goal.at.returns-in-At-exit_at c).In-Left-guard_at heading _ (sym c.in-At-exit_at.ensures) in
+    let v = λ (heading : HeadingData). past_third (goal.at.returns-in-At-exit_at c).In-Left-guard_at heading _ (sym c.in-At-exit_at.ensures) in
     record { value = v; related = obliges c.args.table.now c.args.places.now c.args.inners.now c.args.index _ v }
 
 pub returns-in-Left-exit_at : goal.returns-in-Left-exit_at
 returns-in-Left-exit_at c =
-    let v = λ (heading : HeadingData). past-third (goal.at.returns-in-Left-exit_at c).In-Left-guard_at heading _
-    (at-end c.in-Left-guard_at.left _ (exits c.args.table.now c.args.places.now c.args.inners.now) c.in-Left-exit_at.ensures) in
+    let v = λ (heading : HeadingData). past_third (goal.at.returns-in-Left-exit_at c).In-Left-guard_at heading _
+    (at_end c.in-Left-guard_at.left _ (exits c.args.table.now c.args.places.now c.args.inners.now) c.in-Left-exit_at.ensures) in
     record { value = v; related = obliges c.args.table.now c.args.places.now c.args.inners.now c.args.index _ v }

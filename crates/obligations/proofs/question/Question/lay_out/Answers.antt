@@ -2,22 +2,22 @@ use Rattle.std.proofs.Common.{◌≡◌, ◌<◌, List, ◌++◌, length, drop, 
 use Rattle.std.proofs.lemmas.List.{take_all}
 use Rattle.rows.specs.declared.numbers.Numbers.{Numbers}
 use Rattle.records.specs.Bounded.{listed}
-use Rattle.semantics.proofs.Gathering.{at-within}
+use Rattle.semantics.proofs.Gathering.{at_within}
 use Rattle.obligations.specs.Facts.{most_facts}
-use Rattle.obligations.proofs.PlanSteps.{past-none}
-use Rattle.obligations.proofs.SheetFronts.{front-more}
-use Rattle.obligations.proofs.ShortLists.{listed-most, get_d_at}
+use Rattle.obligations.proofs.PlanSteps.{past_none}
+use Rattle.obligations.proofs.SheetFronts.{front_more}
+use Rattle.obligations.proofs.ShortLists.{listed_most, get_d_at}
 use Rattle.obligations.proofs.question.Question.lay_out.Goals as goal
 use Rattle.obligations.proofs.question.Question.lay_out.Goals.{In-Some}
 
 module _ (c : In-Some) where
   within : c.loop-fact.index < length (listed c.args.self.now.facts)
-  within = at-within (listed c.args.self.now.facts) c.loop-fact.index c.in-Some.fact (sym c.in-Some.ensures)
+  within = at_within (listed c.args.self.now.facts) c.loop-fact.index c.in-Some.fact (sym c.in-Some.ensures)
 
   few : c.loop-fact.index < most_facts
   few =
       let w = within in
-      let m = listed-most c.args.self.now.facts in
+      let m = listed_most c.args.self.now.facts in
       omega (arith, w, m)
 
   roomy : c.loop-fact.index < length c.args.sheet.now
@@ -46,14 +46,14 @@ loop-fact-preserved c =
     let d = (goal.at.loop-fact-preserved c).In-Some in
     let w = within d in (
       omega (arith, w),
-      front-more (listed c.args.self.now.facts) c.args.sheet.now c.loop-fact.index c.args.self.now.goal w (roomy d) c.loop-fact.sheet c.in-Some.fact c.loop-fact.invariant.1
+      front_more (listed c.args.self.now.facts) c.args.sheet.now c.loop-fact.index c.args.self.now.goal w (roomy d) c.loop-fact.sheet c.in-Some.fact c.loop-fact.invariant.1
           (ap (λ (o : Option Numbers). unwrap_or o c.args.self.now.goal) c.in-Some.ensures ∙ get_d_at (listed c.args.self.now.facts) c.loop-fact.index c.args.self.now.goal),
     )
 
 pub returns : goal.returns
 returns c =
     let fs = listed c.args.self.now.facts in
-    let p = past-none c.loop-fact.index fs c.in_default.ensures in
+    let p = past_none c.loop-fact.index fs c.in_default.ensures in
     let e : c.loop-fact.index ≡ length fs = omega (arith, p, c.loop-fact.invariant.0) in
     let n = c.len.ensures.value in (
       e,

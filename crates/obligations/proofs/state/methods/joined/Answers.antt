@@ -2,7 +2,7 @@ use Rattle.std.proofs.Common.{◌≡◌, ◌+◌, List, [], ◌∷◌, ◌++◌,
 use borrow.Rule.Slice.PartMut.{put_mid}
 use Rattle.records.specs.Limits.{most_values, most_choices}
 use Rattle.obligations.specs.Numbers.{StateNumbers}
-use Rattle.obligations.proofs.Joining.{overwritten, joined-within}
+use Rattle.obligations.proofs.Joining.{overwritten, joined_within}
 use Rattle.obligations.proofs.state.methods.joined.Goals as goal
 use Rattle.obligations.proofs.state.methods.joined.Goals.{After-copy_from_slice-2}
 
@@ -21,7 +21,7 @@ unreachable-requires c =
     let d = (goal.at.unreachable-requires c).After-copy_from_slice-2 in
     c.in-None.ensures
     (subst (StateNumbers (most_values + most_choices)) (sym (both d))
-    (joined-within most_values most_choices c.args.values.now c.args.choices.now c.told-values c.requires.values c.requires.choices))
+    (joined_within most_values most_choices c.args.values.now c.args.choices.now c.told-values c.requires.values c.requires.choices))
 
 pub returns : goal.returns
 returns c = c.in-Some.ensures.0 ∙ both (goal.at.returns c).After-copy_from_slice-2

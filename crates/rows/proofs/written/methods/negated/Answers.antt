@@ -3,7 +3,7 @@ use Rattle.std.proofs.lemmas.Int.{ints}
 use Rattle.rows.specs.declared.limits.Limit.TheVariants.{WrittenNumber}
 use Rattle.rows.specs.Limits.{columns, magnitude_of}
 use Rattle.rows.proofs.Bounds.{bounded}
-use Rattle.rows.proofs.MapInPlace.{written-more, written_all}
+use Rattle.rows.proofs.MapInPlace.{written_more, written_all}
 use Rattle.rows.proofs.written.methods.negated.Goals as goal
 
 pub overflow_sub-turned : goal.overflow_sub-turned
@@ -18,7 +18,7 @@ loop-column-preserved c =
     let l : length c.args.numbers ≡ columns = search rules in
     let h : c.loop-column.column < length c.args.numbers = omega arith in
     let v : to_z w64 (of_z w64 (pos 0 -ℤ to_z w64 (of_z w64 x))) ≡ neg_ℤ x = omega (arith, ints) in
-    written-more neg_ℤ c.args.numbers c.loop-column.turned c.loop-column.column (pos 0) _ h c.loop-column.invariant v
+    written_more neg_ℤ c.args.numbers c.loop-column.turned c.loop-column.column (pos 0) _ h c.loop-column.invariant v
 
 pub returns : goal.returns
 returns c =

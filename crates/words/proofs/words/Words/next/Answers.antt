@@ -5,26 +5,26 @@ use Rattle.std.proofs.lemmas.Bool.{cases_lt}
 use Rattle.std.proofs.lemmas.Str.{IsCharBoundary-start, IsCharBoundary-after_ascii}
 use Rattle.std.proofs.lemmas.Bool.Decides.{nat_tests}
 use Rattle.words.specs.Words.{separator, Front}
-use Rattle.words.proofs.Cuts.{Cut, first_word, no_word, words-read}
+use Rattle.words.proofs.Cuts.{Cut, first_word, no_word, words_read}
 use Rattle.words.proofs.words.Words.next.Goals.{After-split_at-2}
 use Rattle.words.proofs.words.Words.next.Goals as goal
 
-separator-ascii : (b : ℕ) → separator b ≡ true → b < 128
-separator-ascii b h = grind (arith, nat_tests)
+separator_ascii : (b : ℕ) → separator b ≡ true → b < 128
+separator_ascii b h = grind (arith, nat_tests)
 
-after-blanks : (line : List ℕ) (b : ℕ) → IsUtf8 line → Front true line b → IsCharBoundary line b
-after-blanks line b text f =
+after_blanks : (line : List ℕ) (b : ℕ) → IsUtf8 line → Front true line b → IsCharBoundary line b
+after_blanks line b text f =
     ⊎_elim
     (λ some.
     let back : b - 1 + 1 ≡ b = omega arith in
-    subst (IsCharBoundary line) back (IsCharBoundary-after_ascii line (b - 1) text (omega (arith, f.within)) (separator-ascii _ (f.all (b - 1) (omega arith)))))
+    subst (IsCharBoundary line) back (IsCharBoundary-after_ascii line (b - 1) text (omega (arith, f.within)) (separator_ascii _ (f.all (b - 1) (omega arith)))))
     (λ none. let start : 0 ≡ b = omega arith in subst (IsCharBoundary line) start (IsCharBoundary-start line text))
     (cases_lt 0 b)
 
 pub split_at-requires : goal.split_at-requires
 split_at-requires c =
     let same = c.as_bytes.ensures.value in
-    after-blanks _ _ (subst IsUtf8 same c.as_bytes.ensures.utf8) (subst (λ l. Front true l c.blanks.result) same c.blanks.ensures)
+    after_blanks _ _ (subst IsUtf8 same c.as_bytes.ensures.utf8) (subst (λ l. Front true l c.blanks.result) same c.blanks.ensures)
 
 cut_of : (c : After-split_at-2) → Cut c.args.self.now.rest.now c.split_at.result.1.now c.split_at-2.result.0.now c.split_at-2.result.1.now c.blanks.result c.word_length.result
 cut_of c = record {
@@ -36,10 +36,10 @@ cut_of c = record {
 }
 
 pub returns-then-is_empty : goal.returns-then-is_empty
-returns-then-is_empty c = record { handed = no_word (cut_of (goal.at.returns-then-is_empty c).After-split_at-2) (true-eqb _ 0 c.if-is_empty.ensures); law = words-read }
+returns-then-is_empty c = record { handed = no_word (cut_of (goal.at.returns-then-is_empty c).After-split_at-2) (true-eqb _ 0 c.if-is_empty.ensures); law = words_read }
 
 pub returns-else-is_empty : goal.returns-else-is_empty
 returns-else-is_empty c = record {
   handed = first_word (cut_of (goal.at.returns-else-is_empty c).After-split_at-2) (omega (arith, false-eqb _ 0 c.if-is_empty.ensures));
-  law = words-read;
+  law = words_read;
 }
