@@ -1,5 +1,4 @@
 // What the console does with a command: stacks of methods by name, and the facts and the goal that it holds.
-#![tactic(auto)]
 
 pub mod session;
 pub mod stacks;
