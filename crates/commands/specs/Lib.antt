@@ -1,4 +1,8 @@
+pub mod Texts
 pub mod Names
+pub mod Words
+pub mod Numerals
+pub mod Hex
 pub mod Stacks
 pub mod Lines
 pub mod Saying

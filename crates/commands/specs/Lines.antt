@@ -1,15 +1,16 @@
 -- What a line says: which command with which arguments, or the first thing that is wrong with it.
-use Rattle.std.specs.Prelude.{ℕ, cond, List, [], ◌∷◌, ℤ, pos, negsuc, Some, None, Ok, Err, codes, Option, Result, ◌==◌, nat_le, slice_index}
+use Rattle.std.specs.Prelude.{ℕ, zero, suc, cond, List, [], ◌∷◌, ◌++◌, take, ℤ, pos, negsuc, Some, None, Ok, Err, codes, Option, Result, ◌==◌, nat_le, slice_index, slice_index_or}
 use Rattle.rows.specs.declared.numbers.Numbers.{Numbers}
-use Rattle.words.specs.declared.errors.LineError.{LineError}
-use Rattle.words.specs.declared.errors.LineError.TheVariants.{UnknownCommand, SheetRows, MissingMethod, UnknownMethod}
-use Rattle.words.specs.Arguments.{and_then, rest_of, ended, first_number, first_hex, nine_numbers}
-use Rattle.words.specs.Words.{words_of}
+use Rattle.commands.specs.declared.errors.LineError.{LineError}
+use Rattle.commands.specs.declared.errors.LineError.TheVariants.{UnknownCommand, TooFewWords, TooManyWords, SheetRows, MissingMethod, UnknownMethod, MissingHex}
 use Rattle.commands.specs.declared.parser.Keyword.{Keyword}
-use Rattle.commands.specs.declared.parser.Keyword.TheVariants.{Sheet, Fact, Goal, Forget, Row, Ask, Table, Witness}
+use Rattle.commands.specs.declared.parser.Keyword.TheVariants.{Sheet, Fact, Goal, Forget, Row, Ask}
 use Rattle.commands.specs.declared.stacks.Stack.{Stack}
+use Rattle.commands.specs.Hex.{hex_bytes, checked}
 use Rattle.commands.specs.Names.{named}
+use Rattle.commands.specs.Numerals.{number_of}
 use Rattle.commands.specs.Stacks.{stack_of}
+use Rattle.commands.specs.Words.{words_of}
 
 -- a command with its arguments; bytes stand as the word that writes them
 pub data Line : Type 0 where
@@ -20,8 +21,26 @@ pub data Line : Type 0 where
   forget_all : Line
   make_row : Numbers → Line
   ask_method : Stack → List ℕ → Line
-  read_table : List ℕ → Line
-  read_witness : List ℕ → Line
+
+-- one reading after another: the first error counts
+abbrev pub and_then : {X Y : Type 0} → Result X LineError → (X → Result Y LineError) → Result Y LineError
+and_then (Ok x) f = f x
+and_then (Err e) f = Err e
+
+-- the words behind the first
+abbrev pub rest_of : List (List ℕ) → List (List ℕ)
+rest_of [] = []
+rest_of (w ∷ ws) = ws
+
+-- the value, where no word is left
+abbrev pub ended : {X : Type 0} → X → List (List ℕ) → Result X LineError
+ended x [] = Ok x
+ended x (w ∷ ws) = Err TooManyWords
+
+-- the first word as a number
+abbrev pub first_number : List (List ℕ) → Result ℤ LineError
+first_number [] = Err TooFewWords
+first_number (w ∷ ws) = number_of w
 
 -- the first word as a stack of methods
 abbrev pub method_of : Option Stack → Result Stack LineError
@@ -31,6 +50,23 @@ method_of (Some s) = Ok s
 abbrev pub first_method : List (List ℕ) → Result Stack LineError
 first_method [] = Err MissingMethod
 first_method (w ∷ ws) = method_of (stack_of w)
+
+-- the first word as one that writes bytes
+abbrev pub first_hex : List (List ℕ) → Result (List ℕ) LineError
+first_hex [] = Err MissingHex
+first_hex (w ∷ ws) = checked (hex_bytes w) w
+
+-- so many numbers behind those that were read, and no word more
+abbrev pub numbers_after : List ℤ → ℕ → List (List ℕ) → Result (List ℤ) LineError
+numbers_after done zero ws = ended done ws
+numbers_after done (suc n) ws = and_then (first_number ws) (λ z. numbers_after (done ++ z ∷ []) n (rest_of ws))
+
+-- nine numbers: eight coefficients and a bound
+abbrev pub shape : List ℤ → Numbers
+shape zs = record { coefficients = take 8 zs; bound = slice_index_or zs 8 (pos 0) }
+
+unfoldable pub nine_numbers : List (List ℕ) → Result Numbers LineError
+nine_numbers ws = and_then (numbers_after [] 9 ws) (λ zs. Ok (shape zs))
 
 -- the most rows of a sheet
 abbrev pub most_rows : ℕ
@@ -43,12 +79,8 @@ sheet_rows (negsuc n) = Err SheetRows
 unfoldable pub sheet_line : List (List ℕ) → Result Line LineError
 sheet_line ws = and_then (first_number ws) (λ z. and_then (ended z (rest_of ws)) (λ y. and_then (sheet_rows y) (λ n. Ok (set_sheet n))))
 
--- a word that writes bytes, and no word more
-unfoldable pub only_hex : List (List ℕ) → Result (List ℕ) LineError
-only_hex ws = and_then (first_hex ws) (λ h. ended h (rest_of ws))
-
 unfoldable pub ask_line : List (List ℕ) → Result Line LineError
-ask_line ws = and_then (first_method ws) (λ s. and_then (only_hex (rest_of ws)) (λ h. Ok (ask_method s h)))
+ask_line ws = and_then (first_method ws) (λ s. and_then (first_hex (rest_of ws)) (λ h. ended (ask_method s h) (rest_of (rest_of ws))))
 
 -- the command of a keyword, with the words behind it
 abbrev pub line_by : Keyword → List (List ℕ) → Result Line LineError
@@ -58,13 +90,9 @@ line_by Goal ws = and_then (nine_numbers ws) (λ n. Ok (set_goal n))
 line_by Forget ws = ended forget_all ws
 line_by Row ws = and_then (nine_numbers ws) (λ n. Ok (make_row n))
 line_by Ask ws = ask_line ws
-line_by Table ws = and_then (only_hex ws) (λ h. Ok (read_table h))
-line_by Witness ws = and_then (only_hex ws) (λ h. Ok (read_witness h))
 
 abbrev pub keywords : List (List ℕ × Keyword)
-keywords =
-    (codes "sheet", Sheet) ∷ (codes "fact", Fact) ∷ (codes "goal", Goal) ∷ (codes "forget", Forget) ∷ (codes "row", Row) ∷ (codes "ask", Ask)
-    ∷ (codes "table", Table) ∷ (codes "witness", Witness) ∷ []
+keywords = (codes "sheet", Sheet) ∷ (codes "fact", Fact) ∷ (codes "goal", Goal) ∷ (codes "forget", Forget) ∷ (codes "row", Row) ∷ (codes "ask", Ask) ∷ []
 
 abbrev pub keyword_of : List ℕ → Option Keyword
 keyword_of = named keywords

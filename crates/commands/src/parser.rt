@@ -1,20 +1,20 @@
 // What a line says.
-ghost use Rattle.commands.specs.Lines.{first_method, keyword_of, line_by, sheet_rows, sheet_line, ask_line, only_hex, line_of};
-ghost use Rattle.commands.specs.Read.{says_in};
+ghost use Rattle.commands.specs.Lines.{keyword_of, line_by, sheet_rows, sheet_line, ask_line, line_of};
+ghost use Rattle.commands.specs.Read.{left, says_in};
 ghost use Rattle.commands.specs.Saying.{LinesRead};
-ghost use Rattle.words.specs.Arguments.{rest_of};
-ghost use Rattle.words.specs.Read.{left, word_in};
 ghost use Rattle.std.specs.Prelude.{◌≡◌};
 
+use crate::errors::LineError;
+use crate::hex::Hex;
 use crate::stacks::Stack;
+use crate::words::Words;
 use rows::Numbers;
-use words::{Hex, LineError, Words};
 
 // The most rows that a sheet may have.
 pub const SHEET_ROWS: i64 = 64;
 
 // A command of the console.
-#[derive(Clone, Copy)]
+#[derive(Clone, Copy, PartialEq, Eq, Debug)]
 pub enum Command<'a> {
     // An empty line or a comment.
     Nothing,
@@ -30,10 +30,6 @@ pub enum Command<'a> {
     Row(Numbers),
     // The question whether the facts give the goal, put to a stack of methods with a certificate.
     Ask { stack: Stack, certificate: Hex<'a> },
-    // The bytes as a table.
-    Table(Hex<'a>),
-    // The bytes as a witness against the last table that was read.
-    Witness(Hex<'a>),
 }
 
 // The word that a command begins with.
@@ -45,8 +41,6 @@ enum Keyword {
     Forget,
     Row,
     Ask,
-    Table,
-    Witness,
 }
 
 impl Keyword {
@@ -61,8 +55,6 @@ impl Keyword {
             "forget" => Some(Keyword::Forget),
             "row" => Some(Keyword::Row),
             "ask" => Some(Keyword::Ask),
-            "table" => Some(Keyword::Table),
-            "witness" => Some(Keyword::Witness),
             _ => None,
         }
     }
@@ -81,8 +73,6 @@ impl Keyword {
             }
             Keyword::Row => Ok(Command::Row(words.numbers()?)),
             Keyword::Ask => ask(words),
-            Keyword::Table => Ok(Command::Table(only_hex(words)?)),
-            Keyword::Witness => Ok(Command::Witness(only_hex(words)?)),
         }
     }
 }
@@ -106,32 +96,13 @@ fn sheet(mut words: Words<'_>) -> Result<Command<'_>, LineError>
     Ok(Command::Sheet(sheet_rows(rows)?))
 }
 
-// The next word as a stack of methods.
-fn method(words: &mut Words<'_>) -> Result<Stack, LineError>
-    ensures value { result ≡ first_method (left words.old) }
-    ensures after { left words.new ≡ rest_of (left words.old) }
-{
-    match words.next() {
-        Some(word) => Stack::read(word).ok_or(LineError::UnknownMethod),
-        None => Err(LineError::MissingMethod),
-    }
-}
-
-// A word that writes bytes, and no word more.
-fn only_hex(mut words: Words<'_>) -> Result<Hex<'_>, LineError>
-    ensures { word_in result ≡ only_hex (left words.entry) }
-{
-    let hex = words.hex()?;
-    words.end()?;
-    Ok(hex)
-}
-
 // A stack of methods and a certificate.
 fn ask(mut words: Words<'_>) -> Result<Command<'_>, LineError>
     ensures { says_in result ≡ ask_line (left words.entry) }
 {
-    let stack = method(&mut words)?;
-    let certificate = only_hex(words)?;
+    let stack = words.method()?;
+    let certificate = words.hex()?;
+    words.end()?;
     Ok(Command::Ask { stack, certificate })
 }
 

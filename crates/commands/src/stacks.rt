@@ -1,24 +1,24 @@
 // Stacks of proof methods as they are written.
 ghost use Rattle.commands.specs.Stacks.{base_of, layer_of, of_base, over, slash, stacked, stack_of, StacksRead};
-ghost use Rattle.words.specs.Words.{pieces};
+ghost use Rattle.commands.specs.Words.{pieces};
 ghost use Rattle.std.specs.Prelude.{◌≡◌};
 
 // A method that stands alone.
-#[derive(Clone, Copy)]
+#[derive(Clone, Copy, PartialEq, Eq, Debug)]
 pub enum Base {
     Multipliers,
     LookUp,
 }
 
 // A method over another one.
-#[derive(Clone, Copy)]
+#[derive(Clone, Copy, PartialEq, Eq, Debug)]
 pub enum Layer {
     Cut,
     Split,
 }
 
 // A base with at most two layers over it, top first.
-#[derive(Clone, Copy)]
+#[derive(Clone, Copy, PartialEq, Eq, Debug)]
 pub enum Stack {
     Bare(Base),
     Single(Layer, Base),

@@ -1,8 +1,7 @@
-// Every kind of line and every error once.
+// Every kind of line, every error and every printed form once.
 use crate::*;
-use rows::Numbers;
+use rows::{Fault, FaultKind, Numbers};
 use std::test::Fail;
-use words::LineError;
 
 fn nine() -> Numbers {
     Numbers {
@@ -13,88 +12,115 @@ fn nine() -> Numbers {
 
 #[test]
 fn commands(rt: HostRuntime) {
-    assert!(rt; matches!(parse(" \t\r"), Ok(Command::Nothing)));
-    assert!(rt; matches!(parse(" # sheet"), Ok(Command::Nothing)));
-    assert!(rt; matches!(parse("sheet 064\r"), Ok(Command::Sheet(64))));
-    assert!(rt; matches!(parse("forget"), Ok(Command::Forget)));
-    assert!(rt; matches!(parse("table 0100"), Ok(Command::Table(_))));
-    assert!(rt; matches!(parse("witness -"), Ok(Command::Witness(_))));
-}
-
-#[test]
-fn numbers(rt: HostRuntime) {
     let numbers = nine();
-    assert!(rt;
-        matches!(
+    assert_eq!(rt; parse(" \t\r"), Ok(Command::Nothing));
+    assert_eq!(rt; parse(" # sheet"), Ok(Command::Nothing));
+    assert_eq!(rt; parse("sheet 064\r"), Ok(Command::Sheet(64)));
+    assert_eq!(rt;
         parse("fact 1 -2 3 0 0 0 0 9223372036854775807 -9223372036854775808"),
-        Ok(Command::Fact(read)) if read == numbers
-    )
+        Ok(Command::Fact(numbers))
     );
-    assert!(rt;
-        matches!(
+    assert_eq!(rt;
         parse("goal 1 -2 3 0  0 0 0 9223372036854775807 -9223372036854775808"),
-        Ok(Command::Goal(read)) if read == numbers
-    )
+        Ok(Command::Goal(numbers))
     );
-    assert!(rt;
-        matches!(
+    assert_eq!(rt;
         parse("row 1 -2 3 0 0 -0 0 9223372036854775807\t-9223372036854775808"),
-        Ok(Command::Row(read)) if read == numbers
-    )
+        Ok(Command::Row(numbers))
     );
+    assert_eq!(rt; parse("forget"), Ok(Command::Forget));
 }
 
 #[test]
 fn questions(rt: HostRuntime) -> Result<(), Fail> {
-    let Ok(Command::Ask { stack, certificate }) = parse("ask split/cut/multipliers 00fFa9") else {
-        assert!(rt; false);
-        return Ok(());
-    };
-    assert!(rt;
-        matches!(
-            stack,
-            Stack::Double(Layer::Split, Layer::Cut, Base::Multipliers)
-        )
+    let stack = Stack::Double(Layer::Split, Layer::Cut, Base::Multipliers);
+    let certificate = Hex::read("00fFa9")?;
+    assert_eq!(rt;
+        parse("ask split/cut/multipliers 00fFa9"),
+        Ok(Command::Ask { stack, certificate })
     );
     assert_eq!(rt;
         certificate.bytes(rt.alloc())?.as_slice(),
         [0, 255, 169].as_slice()
     );
+    assert!(rt; Hex::read("-")?.bytes(rt.alloc())?.is_empty());
     Ok(())
 }
 
 #[test]
 fn number_errors(rt: HostRuntime) {
-    assert!(rt; matches!(parse("tell"), Err(LineError::UnknownCommand)));
-    assert!(rt; matches!(parse("sheet +1"), Err(LineError::NotANumber)));
-    assert!(rt;
-        matches!(
-            parse("sheet 9223372036854775808"),
-            Err(LineError::NumberTooLarge)
-        )
+    assert_eq!(rt; parse("tell"), Err(LineError::UnknownCommand));
+    assert_eq!(rt; parse("sheet +1"), Err(LineError::NotANumber));
+    assert_eq!(rt;
+        parse("sheet 9223372036854775808"),
+        Err(LineError::NumberTooLarge)
     );
-    assert!(rt; matches!(parse("row 1 2 3 4 5 6 7 8"), Err(LineError::TooFewWords)));
-    assert!(rt;
-        matches!(
-            parse("row 1 2 3 4 5 6 7 8 9 10"),
-            Err(LineError::TooManyWords)
-        )
+    assert_eq!(rt; parse("row 1 2 3 4 5 6 7 8"), Err(LineError::TooFewWords));
+    assert_eq!(rt;
+        parse("row 1 2 3 4 5 6 7 8 9 10"),
+        Err(LineError::TooManyWords)
     );
-    assert!(rt; matches!(parse("sheet 65"), Err(LineError::SheetRows)));
-    assert!(rt; matches!(parse("sheet -1"), Err(LineError::SheetRows)));
+    assert_eq!(rt; parse("sheet 65"), Err(LineError::SheetRows));
+    assert_eq!(rt; parse("sheet -1"), Err(LineError::SheetRows));
 }
 
 #[test]
 fn question_errors(rt: HostRuntime) {
-    assert!(rt; matches!(parse("ask"), Err(LineError::MissingMethod)));
-    assert!(rt;
-        matches!(
-            parse("ask cut/cut/cut/look-up -"),
-            Err(LineError::UnknownMethod)
-        )
+    assert_eq!(rt; parse("ask"), Err(LineError::MissingMethod));
+    assert_eq!(rt;
+        parse("ask cut/cut/cut/look-up -"),
+        Err(LineError::UnknownMethod)
     );
-    assert!(rt; matches!(parse("ask look-up"), Err(LineError::MissingHex)));
-    assert!(rt; matches!(parse("table 0g"), Err(LineError::NoHexDigit)));
-    assert!(rt; matches!(parse("witness 000"), Err(LineError::OddHexDigits)));
-    assert!(rt; matches!(parse("table - -"), Err(LineError::TooManyWords)));
+    assert_eq!(rt; parse("ask look-up"), Err(LineError::MissingHex));
+    assert_eq!(rt; parse("ask look-up 0g"), Err(LineError::NoHexDigit));
+    assert_eq!(rt; parse("ask look-up 000"), Err(LineError::OddHexDigits));
+    assert_eq!(rt; parse("ask look-up - -"), Err(LineError::TooManyWords));
+}
+
+#[test]
+fn printed(rt: HostRuntime) -> Result<(), Fail> {
+    let heap = rt.alloc();
+    let fault = Fault {
+        kind: FaultKind::ColumnDiffers,
+        place: 12,
+        depth: 1,
+        item: 7,
+    };
+    assert_eq!(rt;
+        Reply {
+            success: Success::Yes,
+            answer: Ok(()),
+        }
+        .text(heap)?
+        .as_str(),
+        "yes"
+    );
+    assert_eq!(rt;
+        Reply {
+            success: Success::Done,
+            answer: Ok(()),
+        }
+        .text(heap)?
+        .as_str(),
+        "ok"
+    );
+    assert_eq!(rt;
+        Reply {
+            success: Success::Yes,
+            answer: Err(fault),
+        }
+        .text(heap)?
+        .as_str(),
+        "refused 55 at 12 layer 1 item 7"
+    );
+    assert_eq!(rt;
+        ErrorLine {
+            line: 3,
+            error: LineError::NotANumber,
+        }
+        .text(heap)?
+        .as_str(),
+        "error line 3: not a number"
+    );
+    Ok(())
 }

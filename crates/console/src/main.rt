@@ -1,5 +1,7 @@
 // The console: one command a line on standard input, one answer a line on standard output.
-use replies::ErrorLine;
+#![tactic(auto)]
+
+use commands::ErrorLine;
 use session::Session;
 use std::io;
 use std::io::{BufRead, BufReader};

@@ -3,38 +3,35 @@ use Rattle.std.specs.Prelude.{◌≡◌, ℕ, cond, ◌⊎◌, List, [], ◌∷�
 use Rattle.rows.specs.declared.numbers.Numbers.{Numbers}
 use Rattle.rows.specs.Faults.{Said}
 use Rattle.rows.specs.Limits.{columns}
-use Rattle.records.specs.Records.{TableData}
 use Rattle.methods.specs.Cuts.{tabulate}
 use Rattle.methods.specs.Openings.{row_says}
 use Rattle.methods.specs.Questions.{asked}
-use Rattle.words.specs.declared.errors.LineError.{LineError}
-use Rattle.words.specs.declared.errors.LineError.TheVariants.{NotText, FactsFull, OutOfMemory}
-use Rattle.replies.specs.declared.reply.Reply.{Reply}
-use Rattle.replies.specs.declared.reply.Reply.TheVariants.{Yes, Done}
-use Rattle.replies.specs.Texts.{unless_refused}
+use Rattle.commands.specs.declared.errors.LineError.{LineError}
+use Rattle.commands.specs.declared.errors.LineError.TheVariants.{NotText, FactsFull, OutOfMemory}
+use Rattle.commands.specs.declared.replies.Reply.{Reply}
+use Rattle.commands.specs.declared.replies.Success.{Success}
+use Rattle.commands.specs.declared.replies.Success.TheVariants.{Yes, Done}
 use Rattle.commands.specs.declared.stacks.Stack.{Stack}
-use Rattle.words.specs.Hex.{hex_bytes}
-use Rattle.commands.specs.Lines.{Line, nothing, set_sheet, add_fact, set_goal, forget_all, make_row, ask_method, read_table, read_witness, line_of}
+use Rattle.commands.specs.Hex.{hex_bytes}
+use Rattle.commands.specs.Lines.{Line, nothing, set_sheet, add_fact, set_goal, forget_all, make_row, ask_method, line_of}
 use Rattle.session.specs.declared.session.Session.{Session}
 use Rattle.session.specs.Chosen.{stack_says}
-use Rattle.session.specs.Files.{on_bytes, table_reply, witnessed, table_after, held_table}
 
--- the facts in their order, the goal, how many rows the fact sheet has, and the last table that could be read
+-- the facts in their order, the goal, and how many rows the fact sheet has
 pub record Model : Type 0 where
   pub facts : List Numbers
   pub goal : Numbers
   pub rows : ℕ
-  pub table : Option TableData
 
 abbrev pub model_of : Session → Model
-model_of s = record { facts = vec_items s.facts; goal = s.goal; rows = s.rows; table = held_table s.table }
+model_of s = record { facts = vec_items s.facts; goal = s.goal; rows = s.rows }
 
 abbrev pub zeros : Numbers
 zeros = record { coefficients = replicate columns (pos 0); bound = pos 0 }
 
 -- at the start
 abbrev pub fresh : Model
-fresh = record { facts = []; goal = zeros; rows = 32; table = None }
+fresh = record { facts = []; goal = zeros; rows = 32 }
 
 -- the most facts that are held
 abbrev pub most_held : ℕ
@@ -44,8 +41,11 @@ most_held = 1000
 abbrev pub sheet_of : List Numbers → ℕ → List Numbers
 sheet_of facts rows = tabulate (λ i. slice_index_or facts i zeros) rows
 
-abbrev pub reply : Reply → Result (Option Reply) LineError
-reply r = Ok (Some r)
+abbrev pub reply_of : Success → Said → Reply
+reply_of word said = record { success = word; answer = said }
+
+abbrev pub reply : Success → Said → Result (Option Reply) LineError
+reply word said = Ok (Some (reply_of word said))
 
 -- the answer to a question with a certificate that was written as a word
 abbrev pub asked_with : Model → Stack → Result (List ℕ) LineError → Result Said LineError
@@ -53,32 +53,28 @@ asked_with m stack (Ok bytes) = Ok (asked (stack_says stack) (length m.facts) (s
 asked_with m stack (Err e) = Err e
 
 abbrev pub replied : Result Said LineError → Result (Option Reply) LineError
-replied (Ok said) = reply (unless_refused Yes said)
+replied (Ok said) = reply Yes said
 replied (Err e) = Err e
 
 -- what the console answers to a command
 abbrev pub reply_to : Line → Model → Result (Option Reply) LineError
 reply_to nothing m = Ok None
-reply_to (set_sheet n) m = reply Done
-reply_to (add_fact r) m = cond (nat_lt (length m.facts) most_held) (reply Done) (Err FactsFull)
-reply_to (set_goal r) m = reply Done
-reply_to forget_all m = reply Done
-reply_to (make_row r) m = reply (unless_refused Done (row_says r))
+reply_to (set_sheet n) m = reply Done (Ok tt)
+reply_to (add_fact r) m = cond (nat_lt (length m.facts) most_held) (reply Done (Ok tt)) (Err FactsFull)
+reply_to (set_goal r) m = reply Done (Ok tt)
+reply_to forget_all m = reply Done (Ok tt)
+reply_to (make_row r) m = reply Done (row_says r)
 reply_to (ask_method stack word) m = replied (asked_with m stack (hex_bytes word))
-reply_to (read_table word) m = on_bytes (hex_bytes word) table_reply
-reply_to (read_witness word) m = on_bytes (hex_bytes word) (witnessed m.table)
 
 -- what it holds afterwards
 abbrev pub after : Line → Model → Model
 after nothing m = m
-after (set_sheet n) m = record { facts = m.facts; goal = m.goal; rows = n; table = m.table }
-after (add_fact r) m = cond (nat_lt (length m.facts) most_held) (record { facts = m.facts ++ r ∷ []; goal = m.goal; rows = m.rows; table = m.table }) m
-after (set_goal r) m = record { facts = m.facts; goal = r; rows = m.rows; table = m.table }
-after forget_all m = record { facts = []; goal = zeros; rows = m.rows; table = m.table }
+after (set_sheet n) m = record { facts = m.facts; goal = m.goal; rows = n }
+after (add_fact r) m = cond (nat_lt (length m.facts) most_held) (record { facts = m.facts ++ r ∷ []; goal = m.goal; rows = m.rows }) m
+after (set_goal r) m = record { facts = m.facts; goal = r; rows = m.rows }
+after forget_all m = record { facts = []; goal = zeros; rows = m.rows }
 after (make_row r) m = m
 after (ask_method stack word) m = m
-after (read_table word) m = record { facts = m.facts; goal = m.goal; rows = m.rows; table = table_after (hex_bytes word) m.table }
-after (read_witness word) m = m
 
 -- a question was answered, or there was no memory for it
 abbrev pub Answered : Result Said LineError → Result Said LineError → Type 0

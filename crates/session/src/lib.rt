@@ -1,4 +1,5 @@
 // What the console does with a command: stacks of methods by name, and the facts and the goal that it holds.
+#![tactic(auto)]
 
 pub mod session;
 pub mod stacks;

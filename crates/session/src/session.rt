@@ -1,24 +1,19 @@
-// What the console holds between two lines: the facts, the goal, the size of the fact sheet and a table.
+// What the console holds between two lines: the facts, the goal and the size of the fact sheet.
 ghost use Rattle.std.specs.Prelude.{◌≡◌, ℕ, IfOk, slice_index_or};
-ghost use Rattle.session.specs.Files.{held_table, witnessed};
-ghost use Rattle.session.specs.Sessions.{model_of, fresh, asked_with, Answered, Ran, LineRan, sheet_of, zeros};
-ghost use Rattle.commands.specs.Lines.{add_fact, read_table};
+ghost use Rattle.session.specs.Sessions.{model_of, fresh, asked_with, Answered, Ran, LineRan, sheet_of, zeros, reply_of};
+ghost use Rattle.commands.specs.Lines.{add_fact};
 ghost use Rattle.commands.specs.Read.{says};
-ghost use Rattle.replies.specs.Texts.{unless_refused};
-ghost use Rattle.replies.specs.declared.reply.Reply.TheVariants.{Done};
+ghost use Rattle.commands.specs.declared.replies.Success.TheVariants.{Done};
 ghost use Rattle.methods.specs.Openings.{row_says};
-ghost use Rattle.words.specs.Hex.{hex_bytes};
+ghost use Rattle.commands.specs.Hex.{hex_bytes};
 
 use crate::stacks::named_stack;
-use commands::{Command, Stack, parse};
+use commands::{Command, Hex, LineError, Reply, Stack, Success, parse};
 use methods::ProofMethod;
-use replies::Reply;
 use rows::limits::COLUMNS;
-use rows::{Answer, Fault, FaultKind, Numbers, Row};
+use rows::{Answer, Numbers, Row};
 use std::alloc::{AllocError, Global};
 use std::str::from_utf8;
-use tables::HeldTable;
-use words::{Hex, LineError};
 
 // The most facts that are held.
 pub const MOST_HELD: usize = 1_000;
@@ -32,17 +27,16 @@ const ZEROS: Numbers = Numbers {
     bound: 0,
 };
 
-// The facts in their order, the goal, how many rows the fact sheet has, and the last table that could be read.
+// The facts in their order, the goal, and how many rows the fact sheet has.
 #[derive(Drop)]
 pub struct Session {
     facts: Vec<Numbers>,
     goal: Numbers,
     rows: usize,
-    table: Option<HeldTable>,
 }
 
 impl Session {
-    // No fact, a goal of zeros, a sheet of 32 rows, no table.
+    // No fact, a goal of zeros, a sheet of 32 rows.
     pub fn new(heap: Global) -> Session
         ensures { model_of result ≡ fresh }
     {
@@ -50,7 +44,6 @@ impl Session {
             facts: Vec::new(heap),
             goal: ZEROS,
             rows: ROWS_AT_START,
-            table: None,
         }
     }
 
@@ -102,32 +95,6 @@ impl Session {
         }
     }
 
-    // Reads a table, and holds it in the place of another if it can be read.
-    fn table(&mut self, heap: Global, hex: Hex<'_>) -> Result<Option<Reply>, LineError>
-        ensures { Ran (read_table hex.entry.word.now) (model_of self.old) (model_of self.new) result }
-    {
-        match HeldTable::read(hex.bytes(heap)?) {
-            Ok((table, summary)) => {
-                self.table = Some(table);
-                Ok(Some(Reply::Table(summary)))
-            }
-            Err(fault) => Ok(Some(Reply::Refused(fault))),
-        }
-    }
-
-    // What is answered to a witness for the table that is held.
-    fn witness(&self, bytes: &[u8]) -> Reply
-        ensures { result ≡ witnessed (held_table self.now.table) bytes.now }
-    {
-        let Some(table) = &self.table else {
-            return Reply::Refused(Fault::of(FaultKind::AdmitWithoutTable));
-        };
-        match table.witness(bytes) {
-            Ok(summary) => Reply::Witness(summary),
-            Err(fault) => Reply::Refused(fault),
-        }
-    }
-
     // Does a command: what is answered, if anything.
     pub fn run(&mut self, heap: Global, command: Command<'_>) -> Result<Option<Reply>, LineError>
         ensures { Ran (says command.entry) (model_of self.old) (model_of self.new) result }
@@ -151,12 +118,10 @@ impl Session {
             Command::Row(numbers) => Ok(Some(row_reply(numbers))),
             Command::Ask { stack, certificate } => {
                 let answer = self.ask(heap, stack, certificate)?;
-                Ok(Some(Reply::Yes.unless_refused(answer)))
-            }
-            Command::Table(hex) => self.table(heap, hex),
-            Command::Witness(hex) => {
-                let bytes = hex.bytes(heap)?;
-                Ok(Some(self.witness(&bytes)))
+                Ok(Some(Reply {
+                    success: Success::Yes,
+                    answer,
+                }))
             }
         }
     }
@@ -175,14 +140,21 @@ impl Session {
 }
 
 // What is answered to a command that cannot be refused.
-const DONE: Option<Reply> = Some(Reply::Done);
+const DONE: Option<Reply> = Some(Reply {
+    success: Success::Done,
+    answer: Ok(()),
+});
 
 // Whether the numbers are a row.
 fn row_reply(numbers: Numbers) -> Reply
-    ensures { result ≡ unless_refused Done (row_says numbers) }
+    ensures { result ≡ reply_of Done (row_says numbers) }
 {
-    match Row::new(numbers) {
-        Ok(_) => Reply::Done,
-        Err(fault) => Reply::Refused(fault),
+    let answer = match Row::new(numbers) {
+        Ok(_) => Ok(()),
+        Err(fault) => Err(fault),
+    };
+    Reply {
+        success: Success::Done,
+        answer,
     }
 }

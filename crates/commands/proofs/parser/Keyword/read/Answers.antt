@@ -6,4 +6,4 @@ use Rattle.commands.proofs.parser.Keyword.read.Goals as goal
 pub returns-in_default : goal.returns-in_default
 returns-in_default c =
     sym (named_none keywords c.args.word.now
-    (c.in_default.not-sheet, (c.in_default.not-fact, (c.in_default.not-goal, (c.in_default.not-forget, (c.in_default.not-row, (c.in_default.not-ask, (c.in_default.not-table, (c.in_default.not-witness, tt)))))))))
+    (c.in_default.not-sheet, (c.in_default.not-fact, (c.in_default.not-goal, (c.in_default.not-forget, (c.in_default.not-row, (c.in_default.not-ask, tt)))))))

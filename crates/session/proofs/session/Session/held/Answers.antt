@@ -1,4 +1,4 @@
-use Rattle.std.proofs.Common.{◌≡◌, ◌≤◌, length, vec_items, sym, arith}
+use Rattle.std.proofs.Common.{◌≤◌, length, vec_items, sym, arith}
 use Rattle.std.proofs.lemmas.List.{get_or_past}
 use Rattle.session.specs.Sessions.{zeros}
 use Rattle.session.proofs.session.Session.held.Goals as goal

@@ -1,4 +1,4 @@
-use Rattle.std.proofs.Common.{◌≡◌, ◌+◌, List, [], ◌∷◌, ◌++◌, get_or, vec_items, sym, ap, ◌∙◌, add-one}
+use Rattle.std.proofs.Common.{◌≡◌, ◌+◌, List, [], ◌∷◌, ◌++◌, get_or, vec_items, ap, ◌∙◌, add-one}
 use Rattle.rows.specs.declared.numbers.Numbers.{Numbers}
 use Rattle.session.specs.Sessions.{sheet_of, zeros}
 use Rattle.session.proofs.session.Session.sheet.Goals as goal

@@ -1,4 +1,4 @@
-use Rattle.std.proofs.Common.{◌≡◌, get_or, vec_items}
+use Rattle.std.proofs.Common.{◌≡◌, vec_items}
 use Rattle.session.specs.Sessions.{sheet_of}
 use Rattle.session.proofs.session.Session.sheet.Given as goal
 
