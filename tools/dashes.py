@@ -9,9 +9,10 @@ of the library, and dashes that join two names, one of which is a fact, a type o
 (as get_or-mapped). A name that would be that of a definition or a function too gets `_lem` behind it.
 """
 
-import os
 import re
 import sys
+
+from respell import files
 
 WORD = re.compile(r"[\w◌'\-ℕℤ≢≡≤]+")
 PLAIN = re.compile(r"[a-z0-9'\-]+\Z")
@@ -32,13 +33,10 @@ STEPS = {"from-tests"}
 
 
 def texts(root, endings):
-    for folder, dirs, names in os.walk(os.path.join(root, "crates")):
-        dirs[:] = sorted(d for d in dirs if d != "out")
-        for n in sorted(names):
-            if n.endswith(endings):
-                path = os.path.join(folder, n)
-                with open(path, encoding="utf-8") as f:
-                    yield path, f.read()
+    for path in files(root):
+        if path.endswith(endings):
+            with open(path, encoding="utf-8") as f:
+                yield path, f.read()
 
 
 def renamings(root):
