@@ -13,7 +13,7 @@ pub mod written;
 pub use expression::Expression;
 pub use fault::{Answer, Fault, FaultKind, moved};
 pub use limits::Limit;
-pub use numbers::Numbers;
+pub use numbers::{Numbers, TooLarge};
 pub use point::Point;
 pub use row::Row;
 pub use written::WrittenRow;
