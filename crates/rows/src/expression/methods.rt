@@ -7,7 +7,7 @@ ghost use Rattle.std.specs.Prelude.{◌≡◌, pos, ◌+ℤ◌, neg_ℤ, ◌≤�
 use crate::expression::Expression;
 use crate::limits::{COLUMNS, Limit};
 use crate::numbers::{Numbers, TooLarge};
-use crate::point::Point;
+use crate::values::Point;
 
 impl Expression {
     // The expression of these numbers, or the first of them that is too large to be written; the constant's item is

@@ -8,8 +8,8 @@ ghost use Rattle.std.specs.Prelude.{◌≡◌, map, pos, ◌-ℤ◌, neg_ℤ, �
 
 use crate::limits::{COLUMNS, Limit};
 use crate::numbers::{Numbers, TooLarge};
-use crate::point::Point;
 use crate::row::Row;
+use crate::values::Point;
 use crate::written::WrittenRow;
 
 impl WrittenRow {
