@@ -25,11 +25,7 @@ impl Numbers {
     pub fn item(&self, item: usize) -> i64
         ensures { result ≡ item_of self.now item }
     {
-        if item < COLUMNS {
-            self.coefficients[item]
-        } else {
-            self.bound
-        }
+        self.coefficients.get(item).copied().unwrap_or(self.bound)
     }
 
     // The lowest item whose number passes the limit.
@@ -37,12 +33,7 @@ impl Numbers {
         ensures value { result ≡ first_beyond (magnitude_of limit) self.now }
         ensures first { IsFirst (beyond (magnitude_of limit) self.now) items result }
     {
-        for item in 0..ITEMS {
-            if !limit.admits(self.item(item)) {
-                return Some(item as u8);
-            }
-        }
-        None
+        (0..ITEMS as u8).find(|item| !limit.admits(self.item(usize::from(*item))))
     }
 
     // Nothing where every number lies within the limit, else the first that does not.

@@ -62,9 +62,5 @@ fn negated(numbers: [i64; COLUMNS]) -> [i64; COLUMNS]
     requires { ValuesWithin (magnitude_of WrittenNumber) numbers }
     ensures { result ≡ map neg_ℤ numbers }
 {
-    let mut turned = numbers;
-    for column in 0..COLUMNS {
-        turned[column] = -numbers[column];
-    }
-    turned
+    numbers.map(|number| -number)
 }
