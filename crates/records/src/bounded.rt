@@ -1,5 +1,5 @@
 // Lists of a few elements, held by value.
-ghost use Rattle.std.specs.Prelude.{◌≡◌, ℕ, length};
+ghost use Rattle.std.specs.Prelude.{◌≡◌, ℕ, ◌≤◌, length};
 
 use std::alloc::AllocError;
 
@@ -8,6 +8,7 @@ pub struct BoundedList<T, const N: usize> {
     items: [T; N],
     count: usize,
     ghost sized: { length items ≡ N },
+    ghost within: { count ≤ N },
 }
 
 // By hand: `Clone` is not derived for a struct with a ghost field and a type parameter. A copy is the same list.
