@@ -91,16 +91,10 @@ module _ (r : ReaderData) where
 pub within_part : (p : PieceData) → within (part_of p) ≡ p
 within_part p = cond_both (is_place p) (PlacePart p) (InnerPart p) (λ (q : PartData). within q ≡ p) (λ _. refl) (λ _. refl)
 
--- its bytes all have an offset, and the reader comes on
+-- it is the piece that stands there, and the reader comes on
 module _ (r : ReaderData) (p : PartData) (g : Given r p) where
   pub part_is : within p ≡ piece_data r.bytes r.at
   part_is = ap within g.part ∙ within_part (piece_data r.bytes r.at)
-
-  pub part_located : length r.bytes < 2 ^ 64 → rest_from (within p).offset + length (within p).rest < 2 ^ 64
-  part_located h =
-      let e = g.ends in
-      let l = length-take (word_at r.bytes r.at) (drop (rest_from r.at) r.bytes) in
-      subst (λ (q : PieceData). rest_from q.offset + length q.rest < 2 ^ 64) (sym part_is) (omega (arith, e, l, h))
 
   pub comes_on : (q : ReaderData) → q ≡ passed_at r → length q.bytes - q.at < length r.bytes - r.at
   comes_on q e =

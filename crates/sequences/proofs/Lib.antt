@@ -2,3 +2,4 @@ pub mod RecordsSame
 pub mod HandedSteps
 pub mod WitnessWalks
 pub mod Filling
+pub mod TransitionsRead

@@ -10,10 +10,6 @@ use Rattle.records.specs.Bounded.{plain_list}
 use Rattle.formats.specs.Pieces.{rest_from, giving}
 use Rattle.formats.specs.StoredRows.{row_at, row_says, rows_at, rows_say}
 
--- a piece whose bytes all have an offset
-abbrev pub Located : Piece → Type 0
-Located p = rest_from p.offset + length p.rest.now < 2 ^ 64
-
 -- a result with its plain value in the place of the code's
 abbrev pub plainly : {T X : Type 0} → (T → X) → Result T Fault → Result X Fault
 plainly plain (Ok x) = Ok (plain x)

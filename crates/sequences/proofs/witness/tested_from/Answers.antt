@@ -26,10 +26,10 @@ module _ (c : In-loop-i) where
   placed : c.args.from + (2 + c.stride-stride.result) * c.loop-i.i ≡ entry_from c.args.shape c.args.from c.loop-i.i
   placed = ap (λ (k : ℕ). c.args.from + k * c.loop-i.i) strided
 
-  before : rest_from c.args.piece.offset + (c.args.from + (2 + c.stride-stride.result) * c.loop-i.i) + entry_stride c.args.shape < 2 ^ 64
+  before : c.args.from + (2 + c.stride-stride.result) * c.loop-i.i + entry_stride c.args.shape ≤ length c.args.piece.rest.now
   before =
       let w = stride_within (entry_stride c.args.shape) c.loop-i.i c.args.count c.loop-i-test.true in
-      let p = c.requires.located in
+      let p = c.requires.within in
       omega (arith, w, p, placed)
 
 pub overflow_add-at : goal.overflow_add-at
