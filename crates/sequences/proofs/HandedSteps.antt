@@ -1,13 +1,12 @@
 -- What the reader of a witness hands out, by cases: no byte is left, a fault, or a piece.
-use Rattle.std.proofs.Common.{◌≡◌, ℕ, ◌+◌, ◌-◌, ◌^◌, ◌<◌, ◌≤◌, ltb, length, drop, Some, None, Ok, Err, sym, refl, ap, ◌∙◌, subst, inl, inr, arith, length-take}
+use Rattle.std.proofs.Common.{◌≡◌, ℕ, ◌-◌, ◌<◌, ◌≤◌, ltb, length, Some, None, Ok, Err, sym, refl, ap, ◌∙◌, subst, inl, inr, arith}
 use Rattle.std.proofs.lemmas.Bool.{lt-ltb, le-ltb, cond-true, cond-false, cases_lt, cond_both}
 use Rattle.rows.specs.declared.fault.Fault.{Fault}
 use Rattle.rows.specs.declared.fault.FaultKind.TheVariants.{WitnessLength}
-use Rattle.rows.specs.Bytes.{word_at}
 use Rattle.rows.specs.Faults.{Said}
 use Rattle.rows.proofs.Chains.{both}
 use Rattle.sequences.specs.Handed.{ReaderData, standing, part_found, handed_at, passed_at, passing}
-use Rattle.formats.specs.Pieces.{rest_from, piece_end, piece_says, giving}
+use Rattle.formats.specs.Pieces.{piece_end, piece_says, giving}
 use Rattle.formats.specs.Walks.{PieceData, piece_data}
 use Rattle.formats.specs.Witnesses.{PartData, PlacePart, InnerPart, is_place, part_of, within, kind_says}
 use Rattle.formats.proofs.PieceTests.{given_fault, given, given_ok, given_err, found_ends}

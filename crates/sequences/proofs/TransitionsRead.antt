@@ -1,5 +1,5 @@
 -- The transitions still to come, one step of reading at a time.
-use Rattle.std.proofs.Common.{◌≡◌, ℕ, ◌+◌, ◌-◌, ◌<◌, List, [], ◌∷◌, length, None, Some, Ok, Err, sym, ap, ◌∙◌, subst, arith}
+use Rattle.std.proofs.Common.{◌≡◌, ◌+◌, ◌-◌, ◌<◌, [], ◌∷◌, length, None, Some, Ok, Err, sym, ap, ◌∙◌, subst, arith}
 use Rattle.rows.specs.declared.fault.Fault.{Fault}
 use Rattle.records.specs.declared.records.Transition.{Transition}
 use Rattle.records.specs.Records.{TransitionData, transition_of}

@@ -1,5 +1,5 @@
 -- The table that a witness is read against, and what its references are looked up in, in the words of the definitions.
-use Rattle.std.specs.Prelude.{ℕ, ◌≤◌, List, map, length}
+use Rattle.std.specs.Prelude.{◌≤◌, List, map, length}
 use Rattle.records.specs.declared.shape.Shape.{Shape}
 use Rattle.records.specs.Records.{TransitionData, heading_of, shape_of, transition_of}
 use Rattle.formats.specs.Witnesses.{PartData, PlacePart, InnerPart, number_from, place_length, named_in}

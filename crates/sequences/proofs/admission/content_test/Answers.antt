@@ -1,10 +1,7 @@
-use Rattle.std.proofs.Common.{map, ap, ◌∙◌}
+use Rattle.std.proofs.Common.{ap, ◌∙◌}
 use Rattle.std.proofs.lemmas.Result.{err_from_is_err_and}
 use Rattle.rows.proofs.Chains.{stops, goes}
-use Rattle.records.specs.declared.shape.Shape.{Shape}
-use Rattle.records.specs.Held.{held}
-use Rattle.records.specs.Records.{transition_of}
-use Rattle.formats.specs.Witnesses.{Progress, named_in, numbers_in, witness_at, pieces_of, pieces_say, references_say, content_says}
+use Rattle.formats.specs.Witnesses.{Progress, named_in, pieces_of, references_say, content_says}
 use Rattle.formats.proofs.PieceTests.{given_ok, given_err}
 use Rattle.sequences.specs.TableGiven.{shape_in, transitions_in}
 use Rattle.sequences.proofs.admission.content_test.Goals as goal

@@ -1,11 +1,9 @@
-use Rattle.std.proofs.Common.{◌≡◌, ℕ, ◌≤◌, true, leb, map, length, drop, Ok, sym, ap, ◌∙◌, subst}
+use Rattle.std.proofs.Common.{◌≡◌, ℕ, ◌≤◌, true, leb, length, drop, Ok, sym, ap, ◌∙◌, subst}
 use Rattle.std.proofs.lemmas.Bool.{and_parts, leb-true}
 use Rattle.rows.proofs.Chains.{goes, check_true}
-use Rattle.records.specs.declared.shape.Shape.{Shape}
 use Rattle.sequences.specs.Admitted.{AdmittedInto}
 use Rattle.records.specs.Held.{held, room}
-use Rattle.records.specs.Limits.{most_places, most_inners, most_choices}
-use Rattle.records.specs.Records.{heading_of, shape_of, transition_of}
+use Rattle.records.specs.Limits.{most_places, most_inners}
 use Rattle.formats.specs.Witnesses.{pieces_say, witness_at, witness_memory_says}
 use Rattle.formats.proofs.WitnessParts.{content_pieces}
 use Rattle.sequences.specs.TableGiven.{shape_in, transitions_in}

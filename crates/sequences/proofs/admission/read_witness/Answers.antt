@@ -1,10 +1,9 @@
 -- The laws of the format, for the bytes that are read.
-use Rattle.std.proofs.Common.{map, length, sym, subst}
+use Rattle.std.proofs.Common.{length, sym, subst}
 use Rattle.formats.specs.Placed.{Placed}
 use Rattle.formats.proofs.WitnessPlaces.{placed_admit}
 use Rattle.formats.proofs.WitnessesWritten.{witness_exactly}
-use Rattle.records.specs.Held.{held, room}
-use Rattle.records.specs.Records.{heading_of, shape_of, transition_of}
+use Rattle.records.specs.Held.{room}
 use Rattle.sequences.specs.TableGiven.{shape_in, transitions_in}
 use Rattle.sequences.proofs.admission.read_witness.Goals as goal
 

@@ -1,10 +1,8 @@
 -- The laws of the format, for the bytes that are tested.
-use Rattle.std.proofs.Common.{map, length, sym, subst}
+use Rattle.std.proofs.Common.{length, sym, subst}
 use Rattle.formats.specs.Placed.{Placed}
 use Rattle.formats.proofs.WitnessPlaces.{placed_witness}
 use Rattle.formats.proofs.WitnessesWritten.{witness_exactly}
-use Rattle.records.specs.Held.{held}
-use Rattle.records.specs.Records.{heading_of, shape_of, transition_of}
 use Rattle.sequences.specs.TableGiven.{shape_in, transitions_in}
 use Rattle.sequences.proofs.admission.test_witness.Goals as goal
 

@@ -1,12 +1,11 @@
-use Rattle.std.proofs.Common.{◌≡◌, ℕ, ◌≤◌, length, Ok, sym, ap, ◌∙◌, subst}
+use Rattle.std.proofs.Common.{◌≡◌, ℕ, Ok, ap, ◌∙◌}
 use Rattle.std.proofs.lemmas.Result.{err_from_is_err_and}
 use Rattle.rows.proofs.Chains.{stops, goes}
 use Rattle.records.specs.declared.shape.Shape.{Shape}
-use Rattle.records.specs.Limits.{most_values, most_transitions}
+use Rattle.records.specs.Limits.{most_transitions}
 use Rattle.formats.specs.Pieces.{pieces_from, piece_end}
 use Rattle.records.specs.Records.{heading_of, shape_of}
 use Rattle.formats.specs.Tables.{heading_shape, heading_rest, heading_at, heading_says, transitions_say, content_says, table_at}
-use Rattle.formats.proofs.HeadingLimits.{heading_values}
 use Rattle.formats.proofs.PieceTests.{given, given_fault, given_ok, given_err}
 use Rattle.sequences.proofs.table.content_test.Goals as goal
 use Rattle.sequences.specs.TransitionsHanded.{reading_of, coming_say}

@@ -1,17 +1,14 @@
 use Rattle.std.proofs.Common.{◌≡◌, ℕ, ◌≤◌, ◌&&◌, leb, length, drop, Ok, sym, ap, ◌∙◌, subst}
 use Rattle.std.proofs.lemmas.Bool.{and_parts, leb-true}
 use Rattle.rows.proofs.Chains.{goes, check_true}
-use Rattle.records.specs.declared.shape.Shape.{Shape}
 use Rattle.records.specs.Held.{held, room}
-use Rattle.records.specs.Limits.{most_values, most_transitions, most_places, most_inners}
-use Rattle.formats.specs.Pieces.{pieces_from, piece_end}
+use Rattle.records.specs.Limits.{most_transitions, most_places, most_inners}
 use Rattle.records.specs.Records.{heading_of, shape_of}
-use Rattle.formats.specs.Tables.{heading_shape, heading_rest, transitions_at, transitions_say, content_says, table_at, memory_says}
-use Rattle.formats.proofs.HeadingLimits.{heading_values}
+use Rattle.formats.specs.Tables.{heading_shape, heading_rest, content_says, table_at, memory_says}
 use Rattle.formats.proofs.PieceTests.{given, given_ok}
 use Rattle.formats.proofs.TableParts.{Parts, content_parts}
 use Rattle.sequences.proofs.table.read_into.Goals as goal
-use Rattle.sequences.specs.TransitionsHanded.{ReadingData, reading_of, starting, coming, coming_say}
+use Rattle.sequences.specs.TransitionsHanded.{ReadingData, starting, coming, coming_say}
 use Rattle.sequences.proofs.table.read_into.Goals.{After-clear}
 
 -- the bytes have passed, and what the code takes from them

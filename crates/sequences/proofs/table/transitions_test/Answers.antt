@@ -1,4 +1,4 @@
-use Rattle.std.proofs.Common.{Some, None, Ok, Option, sym, ◌∙◌, subst}
+use Rattle.std.proofs.Common.{Ok, Option, ◌∙◌, subst}
 use Rattle.std.proofs.lemmas.Result.{err_from_is_err_and}
 use Rattle.records.specs.declared.records.Transition.{Transition}
 use Rattle.sequences.specs.TransitionsHanded.{reading_of, HandedOut}

@@ -1,4 +1,4 @@
-use Rattle.std.proofs.Common.{ℕ, ◌^◌, ◌<◌, List, length, Ok, Option, sym, ap, ◌∙◌, subst, rules}
+use Rattle.std.proofs.Common.{Ok, Option, sym, ap, ◌∙◌, subst}
 use Rattle.std.proofs.lemmas.Result.{err_from_is_err_and}
 use Rattle.std.specs.Option.{option_map}
 use Rattle.sequences.specs.declared.witness.WitnessPiece.{WitnessPiece}

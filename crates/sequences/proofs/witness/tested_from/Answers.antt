@@ -1,4 +1,4 @@
-use Rattle.std.proofs.Common.{◌≡◌, ℕ, ◌+◌, ◌*◌, ◌^◌, ◌<◌, ◌≤◌, List, [], ◌∷◌, ◌++◌, map, length, sym, refl, ap, ◌∙◌, arith}
+use Rattle.std.proofs.Common.{◌≡◌, ℕ, ◌+◌, ◌*◌, ◌<◌, ◌≤◌, List, [], ◌∷◌, ◌++◌, map, length, sym, refl, ap, ◌∙◌, arith}
 use Rattle.std.proofs.lemmas.List.FromFn.{length-map-range_with_len, map-range_with_len_more}
 use Rattle.std.proofs.lemmas.List.{length-map, map_push}
 use Rattle.std.proofs.lemmas.Result.{err_from_is_err_and}
@@ -6,7 +6,6 @@ use Rattle.rows.specs.declared.fault.FaultKind.TheVariants.{WitnessWritten}
 use Rattle.rows.specs.Bytes.{word_at}
 use Rattle.records.specs.declared.shape.Shape.{Shape}
 use Rattle.records.specs.Bounded.{listed}
-use Rattle.formats.specs.Pieces.{rest_from}
 use Rattle.records.specs.Records.{EntryData, entry_of}
 use Rattle.formats.specs.StoredRows.{row_at, row_says}
 use Rattle.records.specs.Slots.{over_values, stride}

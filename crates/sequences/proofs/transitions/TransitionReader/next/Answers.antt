@@ -1,8 +1,7 @@
-use Rattle.std.proofs.Common.{◌≡◌, ℕ, ◌+◌, ◌<◌, length, List, Ok, ap, ◌∙◌, refl}
-use Rattle.std.proofs.lemmas.Result.{err_from_is_err_and}
-use Rattle.rows.proofs.Chains.{stops, goes}
-use Rattle.formats.specs.Tables.{transition_at, transition_says}
-use Rattle.formats.proofs.PieceTests.{given_ok, given_err}
+use Rattle.std.proofs.Common.{◌≡◌, ℕ, Ok, ap, ◌∙◌}
+use Rattle.rows.proofs.Chains.{goes}
+use Rattle.formats.specs.Tables.{transition_says}
+use Rattle.formats.proofs.PieceTests.{given_ok}
 use Rattle.formats.proofs.TransitionSteps.{next_room}
 use Rattle.sequences.specs.TransitionsHanded.{reading_of, next_test}
 use Rattle.sequences.proofs.transitions.TransitionReader.next.Goals as goal
