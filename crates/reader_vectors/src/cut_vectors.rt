@@ -85,12 +85,7 @@ fn cut_to(length: usize, layout: Layout) -> Expected<(usize, usize)> {
 }
 
 // Every cut of a witness.
-fn cut_witness(
-    rt: &impl Abort,
-    against: &[u8],
-    bytes: &[u8],
-    layout: Layout,
-) -> Result<(), Fail> {
+fn cut_witness(rt: &impl Abort, against: &[u8], bytes: &[u8], layout: Layout) -> Result<(), Fail> {
     for length in 0..=bytes.len() {
         expect_witness(
             rt,

@@ -30,15 +30,7 @@ fn memory_of_tables(rt: HostRuntime) -> Result<(), Fail> {
             length: WHOLE,
         };
         let built = (SMALL, 2, (1, 1));
-        expect_built_table(
-            &rt,
-            &i,
-            rt.alloc(),
-            built,
-            changes,
-            memory,
-            expected,
-        )?;
+        expect_built_table(&rt, &i, rt.alloc(), built, changes, memory, expected)?;
     }
     Ok(())
 }
@@ -65,15 +57,7 @@ fn memory_of_witnesses(rt: HostRuntime) -> Result<(), Fail> {
             length: WHOLE,
         };
         let built = (SMALL, (2, 11, 13, 0), (1, 2, 1));
-        expect_built_witness(
-            &rt,
-            &i,
-            rt.alloc(),
-            built,
-            changes,
-            memory,
-            expected,
-        )?;
+        expect_built_witness(&rt, &i, rt.alloc(), built, changes, memory, expected)?;
     }
     Ok(())
 }
