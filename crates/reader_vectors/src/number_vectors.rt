@@ -18,10 +18,14 @@ const NUMBERS: [(i32, bool); 6] = [
 
 // Puts a number at an offset.
 fn put_at(bytes: &mut Vec<u8>, at: usize, number: i32) -> Result<(), Fail> {
-    let [a, b, c, d] = number.to_be_bytes();
-    let behind = at.saturating_add(2);
-    change(bytes, ((at, a), (at.saturating_add(1), b), WHOLE))?;
-    change(bytes, ((behind, c), (behind.saturating_add(1), d), WHOLE))
+    for (i, byte) in number.to_be_bytes().into_iter().enumerate() {
+        let changes = Changes {
+            bytes: [(at.saturating_add(i), byte), NONE],
+            length: WHOLE,
+        };
+        change(bytes, changes)?;
+    }
+    Ok(())
 }
 
 // Each of the numbers, put at an offset of a table with one transition.

@@ -1,16 +1,18 @@
 // Lists of a few elements, held by value.
-ghost use Rattle.std.specs.Prelude.{◌≡◌, ℕ, length};
+ghost use Rattle.std.specs.Prelude.{◌≡◌, ℕ, ◌≤◌, length};
 
 use std::alloc::AllocError;
 
-// The first `count` of the items; those behind them are not part of the list.
+// The first `count` of the items; those behind them are not part of the list. An array with a count, and no `Vec`: the
+// checker's core runs in fixed memory.
 pub struct BoundedList<T, const N: usize> {
     items: [T; N],
     count: usize,
     ghost sized: { length items ≡ N },
+    ghost within: { count ≤ N },
 }
 
-// By hand: `Clone` is not derived for a struct with a ghost field and a type parameter. A copy is the same list.
+// By hand: a derived `Clone` of a struct with a ghost field and a type parameter is refused. A copy is the same list.
 impl<T: Copy, const N: usize> Clone for BoundedList<T, N> {
     ghost is_clone = { λ x y. y ≡ x };
 

@@ -5,7 +5,6 @@ pub mod bounded;
 pub mod heading;
 pub mod limits;
 pub mod numbered;
-mod prefix;
 pub mod records;
 pub mod register;
 pub mod shape;

@@ -4,7 +4,6 @@ ghost use Rattle.records.specs.Lists.{at};
 ghost use Rattle.records.specs.Bounded.{listed, spare};
 
 use crate::bounded::BoundedList;
-use crate::prefix::{element, front, one_more};
 
 impl<T: Copy, const N: usize> BoundedList<T, N> {
     // The empty list, its memory filled with one value.
@@ -18,32 +17,40 @@ impl<T: Copy, const N: usize> BoundedList<T, N> {
         }
     }
 
+    // The elements, in their order.
+    pub fn as_slice(&self) -> &[T]
+        ensures { result.now ≡ listed self.now }
+    {
+        &self.items[..self.count]
+    }
+
     // How many elements the list has.
     pub fn len(&self) -> usize
         ensures value { result ≡ length (listed self.now) }
         ensures within { result ≤ N }
     {
-        front(&self.items, self.count).len()
+        self.as_slice().len()
     }
 
     // The element at a place, if one is there.
     pub fn get(&self, i: usize) -> Option<T>
         ensures { result ≡ at i (listed self.now) }
     {
-        element(front(&self.items, self.count), i)
+        self.as_slice().get(i).copied()
     }
 
     // Puts an element at the end, if there is room; else the list stays as it is.
+    // A `bool`, as a set's `insert` answers: an empty error would say no more.
     pub fn push(&mut self, item: T) -> bool
         ensures took { result ≡ nat_lt (length (listed self.old)) N }
         ensures listed { listed self.new ≡ (if result then listed self.old ++ (item ∷ []) else listed self.old) }
         ensures spare { spare self.new ≡ (if result then drop 1 (spare self.old) else spare self.old) }
     {
-        let Some(count) = one_more(self.count, N) else {
+        if self.count == N {
             return false;
-        };
+        }
         self.items[self.count] = item;
-        self.count = count;
+        self.count += 1;
         true
     }
 }

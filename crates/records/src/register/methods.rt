@@ -4,7 +4,6 @@ ghost use Rattle.records.specs.Lists.{at, place_of};
 ghost use Rattle.records.specs.Held.{held, behind, room};
 
 use crate::numbered::Numbered;
-use crate::prefix::{element, front, one_more, put_among};
 use crate::register::Register;
 
 impl<'a, T: Copy> Register<'a, T> {
@@ -23,12 +22,19 @@ impl<'a, T: Copy> Register<'a, T> {
         self.records.len()
     }
 
+    // The records, in their order.
+    pub fn as_slice(&self) -> &[T]
+        ensures { result.now ≡ held self.now }
+    {
+        &self.records[..self.len]
+    }
+
     // How many records the register holds.
     pub fn len(&self) -> usize
         ensures value { result ≡ length (held self.now) }
         ensures within { result ≤ room self.now }
     {
-        front(self.records, self.len).len()
+        self.as_slice().len()
     }
 
     // Lets all records go; the memory stays as it is.
@@ -37,29 +43,22 @@ impl<'a, T: Copy> Register<'a, T> {
         ensures behind { behind self.new ≡ held self.old ++ behind self.old }
         ensures room { room self.new ≡ room self.old }
     {
-        self.truncate(0);
-    }
-
-    // Lets go of all records but the first `len`.
-    fn truncate(&mut self, len: usize)
-        ensures len { self.new.len ≡ min self.old.len len }
-        ensures records { self.new.records.now ≡ self.old.records.now }
-    {
-        self.len = self.len.min(len);
+        self.len = 0;
     }
 
     // Puts a record at the end, if there is room; else the register stays as it is.
+    // A `bool`, as a set's `insert` answers: an empty error would say no more.
     pub fn push(&mut self, item: T) -> bool
         ensures took { result ≡ nat_lt (length (held self.old)) (room self.old) }
         ensures held { held self.new ≡ (if result then held self.old ++ (item ∷ []) else held self.old) }
         ensures behind { behind self.new ≡ (if result then drop 1 (behind self.old) else behind self.old) }
         ensures room { room self.new ≡ room self.old }
     {
-        let Some(len) = one_more(self.len, self.capacity()) else {
+        if self.len == self.capacity() {
             return false;
-        };
+        }
         self.records[self.len] = item;
-        self.len = len;
+        self.len += 1;
         true
     }
 
@@ -67,18 +66,23 @@ impl<'a, T: Copy> Register<'a, T> {
     pub fn get(&self, i: usize) -> Option<T>
         ensures { result ≡ at i (held self.now) }
     {
-        element(front(self.records, self.len), i)
+        self.as_slice().get(i).copied()
     }
 
     // Puts a record in the place of another; where none stands there, the register stays as it is.
+    // A `bool`, as for `push`.
+    #[tactic(auto, using(crate::proofs::Fronts::taken_set))]
     pub fn replace(&mut self, i: usize, item: T) -> bool
         ensures took { result ≡ nat_lt i (length (held self.old)) }
         ensures held { held self.new ≡ slice_set (held self.old) i item }
         ensures behind { behind self.new ≡ behind self.old }
         ensures room { room self.new ≡ room self.old }
     {
-        let len = self.len;
-        put_among(self.records, len, i, item)
+        if i >= self.len {
+            return false;
+        }
+        self.records[i] = item;
+        true
     }
 }
 
@@ -87,13 +91,8 @@ impl<'a, T: Copy + Numbered> Register<'a, T> {
     pub fn find(&self, n: u16) -> Option<usize>
         ensures { result ≡ place_of T.Numbered.number n 0 (held self.now) }
     {
-        let records = front(self.records, self.len);
-        for i in 0..records.len() {
-            let item = records[i];
-            if item.number() == n {
-                return Some(i);
-            }
-        }
-        None
+        self.as_slice()
+            .iter()
+            .position(|record| record.number() == n)
     }
 }
