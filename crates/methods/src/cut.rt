@@ -90,10 +90,10 @@ fn cut_row(facts: &[Numbers], certificate: &[u8]) -> Result<Numbers, Fault>
     weights_test(certificate, WEIGHTS_FROM, facts)?;
     columns_test(facts, certificate)?;
     let row = divided_row(facts, certificate);
-    match row.first_beyond(Limit::RowNumber) {
-        None => Ok(row),
-        Some(item) => Err(Fault::with_item(FaultKind::LayerRowTooLarge, item)),
-    }
+    row.held_to(Limit::RowNumber).map_err(|too_large| {
+        Fault::with_item(FaultKind::LayerRowTooLarge, too_large.item)
+    })?;
+    Ok(row)
 }
 
 impl<M: ProofMethod> Cut<M> {

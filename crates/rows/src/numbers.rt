@@ -2,6 +2,7 @@
 ghost use Rattle.std.specs.Prelude.{◌≡◌, ℕ};
 ghost use Rattle.rows.specs.Firsts.{IsFirst};
 ghost use Rattle.rows.specs.Limits.{magnitude_of, items};
+ghost use Rattle.rows.specs.Made.{HeldTo, unless_beyond};
 ghost use Rattle.rows.specs.Shapes.{item_of, beyond, first_beyond};
 
 use crate::limits::{COLUMNS, ITEMS, Limit};
@@ -11,6 +12,12 @@ use crate::limits::{COLUMNS, ITEMS, Limit};
 pub struct Numbers {
     pub coefficients: [i64; COLUMNS],
     pub bound: i64,
+}
+
+// The refusal of numbers: the first, by its item, that passes a limit.
+#[derive(Clone, Copy, PartialEq, Eq, Debug)]
+pub struct TooLarge {
+    pub item: u8,
 }
 
 impl Numbers {
@@ -36,5 +43,16 @@ impl Numbers {
             }
         }
         None
+    }
+
+    // Nothing where every number lies within the limit, else the first that does not.
+    pub fn held_to(&self, limit: Limit) -> Result<(), TooLarge>
+        ensures value { result ≡ unless_beyond (first_beyond (magnitude_of limit) self.now) }
+        ensures first { HeldTo (magnitude_of limit) self.now result }
+    {
+        match self.first_beyond(limit) {
+            None => Ok(()),
+            Some(item) => Err(TooLarge { item }),
+        }
     }
 }

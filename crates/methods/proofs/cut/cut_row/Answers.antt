@@ -1,13 +1,14 @@
-use Rattle.std.proofs.Common.{sym, ap, ◌∙◌}
+use Rattle.std.proofs.Common.{sym, ap, ◌∙◌, rules}
 use Rattle.std.proofs.lemmas.Result.{err_from_is_err_and}
 use Rattle.std.proofs.lemmas.Bool.{le-leb, lt-leb}
 use Rattle.rows.specs.declared.fault.FaultKind.TheVariants.{LayerRowTooLarge}
 use Rattle.rows.specs.declared.limits.Limit.TheVariants.{RowNumber}
-use Rattle.rows.specs.Faults.{unless_found}
 use Rattle.rows.specs.Limits.{magnitude_of}
+use Rattle.rows.specs.Made.{unless_beyond}
 use Rattle.rows.specs.Shapes.{first_beyond}
 use Rattle.rows.proofs.Chains.{stops, goes, checked, failed}
 use Rattle.methods.specs.Cuts.{cut_tests, cut_weights_from, divisor_from}
+use Rattle.methods.proofs.RowTests.{refusal}
 use Rattle.methods.proofs.WeightTests.{range_yes, weights_yes}
 use Rattle.methods.proofs.cut.cut_row.Goals as goal
 
@@ -53,17 +54,18 @@ divided_row-row-requires c =
       divisor_most = g.1;
     }
 
-pub returns-in-None : goal.returns-in-None
+-- what the last test says: the row's numbers, held to the limit
+pub returns-in_err-map_err : goal.returns-in_err-map_err
 unfolding cut_tests
-returns-in-None c =
-    let b = c.in-None.ensures.value ∙ ap (first_beyond (magnitude_of RowNumber)) c.divided_row-row.ensures in (
-      goes _ _ _ (checked _ _ (le-leb _ _ c.if-certificate-facts.false)) (goes _ _ _ c.in_ok-range_test.ensures (goes _ _ _ c.in_ok-weights_test.ensures (goes _ _ _ c.in_ok-columns_test.ensures (ap (unless_found LayerRowTooLarge) b)))),
+returns-in_err-map_err c =
+    let p = err_from_is_err_and c.from_residual-in_err-map_err.result c.from_residual-in_err-map_err.ensures.1 in
+    let b = refusal LayerRowTooLarge _ _ _ (c.held_to.ensures.value ∙ ap (λ row. unless_beyond (first_beyond (magnitude_of RowNumber) row)) c.divided_row-row.ensures) (search rules) in
+    rw (p.1, p.2) (goes _ _ _ (checked _ _ (le-leb _ _ c.if-certificate-facts.false)) (goes _ _ _ c.in_ok-range_test.ensures (goes _ _ _ c.in_ok-weights_test.ensures (goes _ _ _ c.in_ok-columns_test.ensures (sym c.in_err-map_err.was ∙ b)))))
+
+pub returns : goal.returns
+unfolding cut_tests
+returns c =
+    let b = refusal LayerRowTooLarge _ _ _ (c.held_to.ensures.value ∙ ap (λ row. unless_beyond (first_beyond (magnitude_of RowNumber) row)) c.divided_row-row.ensures) (search rules) in (
+      goes _ _ _ (checked _ _ (le-leb _ _ c.if-certificate-facts.false)) (goes _ _ _ c.in_ok-range_test.ensures (goes _ _ _ c.in_ok-weights_test.ensures (goes _ _ _ c.in_ok-columns_test.ensures (sym c.in_ok-map_err.was ∙ b)))),
       c.divided_row-row.ensures,
     )
-
-pub returns-in-Some : goal.returns-in-Some
-unfolding cut_tests
-returns-in-Some c =
-    let b = c.in-Some.ensures.value ∙ ap (first_beyond (magnitude_of RowNumber)) c.divided_row-row.ensures in
-    rw c.with_item.ensures
-    (goes _ _ _ (checked _ _ (le-leb _ _ c.if-certificate-facts.false)) (goes _ _ _ c.in_ok-range_test.ensures (goes _ _ _ c.in_ok-weights_test.ensures (goes _ _ _ c.in_ok-columns_test.ensures (ap (unless_found LayerRowTooLarge) b)))))
