@@ -1,21 +1,19 @@
 -- A count through lists that are put behind one another: through one, through those that the items of a fold give, and
 -- through two.
-use Rattle.std.proofs.Common.{◌≡◌, ℕ, zero, suc, ◌+◌, ◌<◌, Bool, true, false, cond, List, [], ◌∷◌, ◌++◌, map, length, take, drop, Some, None, Option, MatchOption, sym, refl, ap, ◌∙◌, subst, arith, length-append}
+use Rattle.std.proofs.Common.{◌≡◌, ℕ, zero, suc, ◌+◌, ◌<◌, Bool, true, false, cond, List, [], ◌∷◌, ◌++◌, map, length, get_or, take, drop, Some, None, Option, MatchOption, sym, refl, ap, ◌∙◌, subst, arith, length-append}
 use denote.Param.Members.{Mut, Called}
 use mir.Val.{bool_byte}
 use Rattle.std.proofs.lemmas.Iterator.{YieldsList}
 use Rattle.std.proofs.lemmas.Iterator.Consumers.{YieldsList-so_far, YieldsList-turn, YieldsList-end}
-use Rattle.std.proofs.lemmas.List.{length-map, take-append-drop, append_assoc}
+use Rattle.std.proofs.lemmas.List.{length-map, take-append-drop, drop_more, append_assoc}
 use Rattle.std.specs.ControlFlow.{MatchControlFlow, IsBreakAnd, break_value, control_flow_from_branch}
 use Rattle.std.specs.declared.ops.ControlFlow.{ControlFlow}
 use Rattle.std.specs.declared.ops.ControlFlow.TheVariants.{Continue, Break}
 use Rattle.std.specs.Iterator.{Yields, TryFoldTurn, TryFoldsItems}
 use Rattle.std.specs.List.{range_with_len, FoldsTo}
 use Rattle.records.specs.Lists.{at}
-use Rattle.records.proofs.Fronts.{at_read}
 use Rattle.semantics.specs.Enumerated.{gathered}
 use Rattle.obligations.specs.Listings.{Reached}
-use Rattle.obligations.proofs.PlanSteps.{drop_found}
 use Rattle.obligations.proofs.ShortLists.{at_plain}
 
 module _ {B : Type 0} where
@@ -85,12 +83,12 @@ gathered_map f plain [] = refl
 gathered_map f plain (x ∷ xs) = ap (λ (zs : List _). f (plain x) ++ zs) (gathered_map f plain xs)
 
 -- i lists are counted through, and the next has the place that is left
-counted_at : {A B : Type 0} (f : A → List B) (xs : List A) (k i left : ℕ) (x : A) (o : B) → k ≡ length (gathered f (take i xs)) + left → Some x ≡ at i xs → at left (f x) ≡ Some o → at k (gathered f xs) ≡ Some o
-counted_at f xs k i left x o n e p =
+counted_at : {A B : Type 0} (f : A → List B) (xs : List A) (k i left : ℕ) (x : A) (o : B) → k ≡ length (gathered f (take i xs)) + left → i < length xs → x ≡ get_or xs i x → at left (f x) ≡ Some o → at k (gathered f xs) ≡ Some o
+counted_at f xs k i left x o n l e p =
     ap (λ (zs : List _). at k (gathered f zs)) (sym (take-append-drop i xs))
     ∙ ap (at k) (gathered_append f (take i xs) (drop i xs))
     ∙ at_behind k left (gathered f (take i xs)) (gathered f (drop i xs)) n
-    ∙ ap (λ (zs : List _). at left (gathered f zs)) (drop_found i xs x e)
+    ∙ ap (λ (zs : List _). at left (gathered f zs)) (drop_more xs i x l ∙ ap (λ (y : _). y ∷ drop (i + 1) xs) (sym e))
     ∙ at_front_lem left (f x) (gathered f (drop (i + 1) xs)) o p
 
 -- a fold whose closure counts through the list that each item gives; `goes` and `breaks` are what `?` does with its answers
@@ -123,7 +121,7 @@ module _ {S A B O F E : Type 0} (steps : S → Option A → S → Type 0) (v : A
       let z = breaks m.0 r m.2 m.4 m.5 in
       let b : at left (h (v x)) ≡ Some z.0 = subst (Reached left (h (v x))) z.1 c.1 in
       let n : k ≡ length (gathered h (take (length xs) all)) + left = p.1 ∙ ap (λ (zs : List B). length (gathered h zs) + left) (YieldsList-so_far y xs w yl) in
-      subst (Reached k (gathered h all)) (sym z.2) (counted_at h all k (length xs) left (v x) z.0 n (at_read all (length xs) (v x) t.0 t.1) b)
+      subst (Reached k (gathered h all)) (sym z.2) (counted_at h all k (length xs) left (v x) z.0 n t.0 t.1 b)
 
   pub counted_through : (s u : S) (all : List B) (k : ℕ) (r : ControlFlow O ℕ) → TryFoldsItems steps g branches resumes s f k r u → YieldsList steps v s all → Reached k (gathered h all) r
   counted_through s u all k r t y = ends s t.4.0 u all k t.0 t.1 t.2 t.3 r y t.4.1 t.4.2 t.5 t.6

@@ -6,6 +6,5 @@ pub mod PlanSteps
 pub mod GoalBounds
 pub mod ShortLists
 pub mod EntryTests
-pub mod GivenParts
 pub mod RelatedQuestions
 pub mod CountedLists

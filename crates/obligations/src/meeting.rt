@@ -8,7 +8,7 @@ ghost use Rattle.records.specs.Records.{row_of, heading_of, transition_of, place
 use records::{BoundedList, Heading, Inner, Place, Transition};
 use rows::{Point, WrittenRow};
 
-// Whether the point meets a row.
+// Whether the point meets a row, said by an equation.
 pub(crate) fn meets(point: &Point, row: &WrittenRow) -> bool
     ensures { result ≡ meets point.now.values (row_of row.now) }
 {

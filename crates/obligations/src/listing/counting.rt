@@ -45,8 +45,13 @@ impl<'a> Records<'a> {
         ))
     }
 
-    // G: the guard rows of the transition of an entry of a place's plan.
-    fn guard_in(&self, place: &Place, entry: u8, index: usize) -> ControlFlow<Obligation, usize>
+    // G: the guard rows of the transition of an entry of a plan.
+    fn entry_guard_in(
+        &self,
+        place: &Place,
+        entry: u8,
+        index: usize,
+    ) -> ControlFlow<Obligation, usize>
         ensures { Reached index (guards_at (bare_table self.now) (place_record_of place.now) entry) result }
     {
         row_at(self.guard_rows(place, usize::from(entry)), index).map_break(|row| Obligation::Guard(
@@ -56,12 +61,12 @@ impl<'a> Records<'a> {
         ))
     }
 
-    // G: the same for each entry of the plan.
-    fn guard_of(&self, place: &Place, index: usize) -> ControlFlow<Obligation, usize>
+    // G: the same for each entry of a place's plan.
+    fn guard_in(&self, place: &Place, index: usize) -> ControlFlow<Obligation, usize>
         ensures { Reached index (guards_of (bare_table self.now) (place_record_of place.now)) result }
     {
         let entries = place.tested.len() as u8 + 1;
-        (0..entries).try_fold(index, |left, entry| self.guard_in(place, entry, left))
+        (0..entries).try_fold(index, |left, entry| self.entry_guard_in(place, entry, left))
     }
 
     // X: the transition itself, if it leaves a listed place and is not inner.
@@ -73,6 +78,7 @@ impl<'a> Records<'a> {
         ))
     }
 
+    // The same for each record of a kind.
     fn consecution_at(&self, index: usize) -> ControlFlow<Obligation, usize>
         ensures { Reached index (gathered (consecutions_of (bare_table self.now) (witness_of self.now)) (map inner_of self.now.inners.now)) result }
     {
@@ -94,7 +100,7 @@ impl<'a> Records<'a> {
     {
         self.places
             .iter()
-            .try_fold(index, |left, place| self.guard_of(place, left))
+            .try_fold(index, |left, place| self.guard_in(place, left))
     }
 
     fn exit_at(&self, index: usize) -> ControlFlow<Obligation, usize>
@@ -105,7 +111,7 @@ impl<'a> Records<'a> {
             .try_fold(index, |left, transition| self.exit_in(transition, left))
     }
 
-    // All of them, one kind after another.
+    // All obligations, one kind after another.
     fn counted_to(&self, index: usize) -> ControlFlow<Obligation, usize>
         ensures { Reached index (obligations_of (bare_table self.now) (witness_of self.now)) result }
     {

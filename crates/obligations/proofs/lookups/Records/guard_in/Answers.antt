@@ -1,14 +1,17 @@
-use Rattle.std.proofs.Common.{ℕ, ap, ◌∙◌, rules}
-use Rattle.records.specs.Records.{place_record_of}
-use Rattle.semantics.specs.declared.obligation.Obligation.TheVariants.{Guard}
-use Rattle.semantics.specs.Enumerated.{given, entry_transition, guard_rows}
-use Rattle.semantics.specs.Plans.{transition_with}
+use Rattle.std.proofs.Common.{◌+◌, length, refl, arith, rules}
+use Rattle.std.proofs.lemmas.Iterator.{YieldsList-from_range}
+use Rattle.std.proofs.lemmas.List.{length-map}
+use Rattle.records.specs.Bounded.{listed}
+use Rattle.records.specs.Records.{entry_of, place_record_of}
+use Rattle.semantics.specs.Enumerated.{guards_at}
 use Rattle.obligations.specs.Questions.{bare_table}
-use Rattle.obligations.proofs.CountedLists.{reached_mapped}
+use Rattle.obligations.proofs.CountedLists.{counted_flow}
 use Rattle.obligations.proofs.lookups.Records.guard_in.Goals as goal
 
 pub returns : goal.returns
 returns c =
-    reached_mapped (Guard c.args.place.now.number c.args.entry) _ (λ i y h. search rules) _ _ _ _ _
-    (c.guard_rows.ensures.value ∙ ap (λ (e : ℕ). guard_rows (given (entry_transition (place_record_of c.args.place.now) e) (transition_with (bare_table c.args.self.now)))) c.from.ensures)
-    c.row_at.ensures c.map_break.ensures
+    let n = c.len.ensures.value in
+    let m = length-map (listed c.args.place.now.tested) entry_of in
+    counted_flow (guards_at (bare_table c.args.self.now) (place_record_of c.args.place.now)) _ c.try_fold.ensures.ran
+    (YieldsList-from_range 0 (c.len.result + 1) (length (place_record_of c.args.place.now).tested + 1) refl (omega (arith, n, m)))
+    (λ k x r q e. search rules)
