@@ -1,31 +1,26 @@
--- The loop that fills an array: what it holds after k places, one place more, and all.
-use Rattle.std.proofs.Common.{◌≡◌, ℕ, ◌+◌, ◌<◌, ◌≤◌, List, length, get_or, set, replicate, ℤ, pos, sym, ap, ◌∙◌, arith, w64, SFits, to_z, of_z}
-use Rattle.std.proofs.lemmas.List.Edits.{fill_by_more}
-use Rattle.std.proofs.lemmas.List.{length-set, length-replicate, ext_get_or}
-use Rattle.std.proofs.lemmas.Int.{to_z-of_z}
+-- Arrays that `from_fn` makes: each element is what the closure answers at its index.
+use Rattle.std.proofs.Common.{◌≡◌, ℕ, zero, suc, ◌+◌, ◌<◌, ◌≤◌, List, map, length, get_or, sym, ap, ◌∙◌, subst, inl, inr, arith}
+use denote.Param.Members.{Mut, Called}
+use Rattle.std.proofs.lemmas.Bool.{cases_lt}
+use Rattle.std.proofs.lemmas.List.FromFn.{length-map-range_with_len, get_or-map-range_with_len}
+use Rattle.std.proofs.lemmas.List.{ext_get_or}
+use Rattle.std.specs.Array.{IsFromFnResult, IsFromFnResultFrom}
+use Rattle.std.specs.List.{range_with_len}
 
--- n places, of which those below k hold what f says
-pub record Filled (n : ℕ) (f : ℕ → ℤ) (xs : List ℤ) (k : ℕ) : Type 0 where
-  pub sized : length xs ≡ n
-  pub so_far : (i : ℕ) → i < k → get_or xs i (pos 0) ≡ f i
+module _ {F B : Type 0} {g : Mut F (ℕ × Unit {0}) B} {f : F} (h : ℕ → B) (answers : (i : ℕ) (y : B) (q : F) → Called g f (i, tt) y q → (q ≡ f) × (y ≡ h i)) where
+  -- from the index i on
+  made_from : (ys : List B) (i n : ℕ) → IsFromFnResultFrom g f ys i n → (k : ℕ) (d : B) → i ≤ k → k < i + n → get_or ys k d ≡ h k
+  made_from ys i zero m k d l u = absurd (omega arith)
+  made_from ys i (suc n) m k d l u =
+      let a = answers i m.1 m.0 m.3 in
+      elim (cases_lt i k) [
+        | inl lt ↦ made_from ys (i + 1) n (subst (λ (q : F). IsFromFnResultFrom g q ys (i + 1) n) a.0 m.4) k d (omega arith) (omega arith)
+        | inr le ↦ let e : k ≡ i = omega arith in ap (λ (j : ℕ). get_or ys j d) e ∙ m.2.1 d ∙ a.1 ∙ ap h (sym e)
+      ]
 
-pub filled_none : (n : ℕ) (f : ℕ → ℤ) → Filled n f (replicate n (pos 0)) 0
-filled_none n f = record { sized = length-replicate n (pos 0); so_far = λ i l. absurd (omega arith) }
+  pub array_made : (ys zs : List B) (n : ℕ) (d : B) → IsFromFnResult g f ys n → length zs ≡ n → ((i : ℕ) → i < n → h i ≡ get_or zs i d) → ys ≡ zs
+  array_made ys zs n d m l e = ext_get_or d ys zs (m.long ∙ sym l) (λ i b. let c : i < n = omega (arith, m.long) in made_from ys 0 n m.each i d (omega arith) (omega arith) ∙ e i c)
 
-filled_more : (n : ℕ) (f : ℕ → ℤ) (xs : List ℤ) (k : ℕ) (v : ℤ) → Filled n f xs k → k < n → v ≡ f k → Filled n f (set xs k v) (k + 1)
-filled_more n f xs k v h l e =
-    let m : k < length xs = omega (arith, h.sized) in
-    record {
-      sized = length-set xs k v ∙ h.sized;
-      so_far = λ i b. ap (λ (w : ℤ). get_or (set xs k w) i (pos 0)) e ∙ fill_by_more f xs k (pos 0) m h.so_far i b;
-    }
-
--- the same with a number that the code worked out at 64 bits
-pub filled_coded : (n : ℕ) (f : ℕ → ℤ) (xs : List ℤ) (k : ℕ) (r : ℤ) → Filled n f xs k → k < n → SFits w64 r → r ≡ f k → Filled n f (set xs k (to_z w64 (of_z w64 r))) (k + 1)
-filled_coded n f xs k r h l b e = filled_more n f xs k _ h l (to_z-of_z w64 r b ∙ e)
-
--- the whole is the list with these elements
-pub filled_all : (n : ℕ) (f : ℕ → ℤ) (xs ys : List ℤ) (k : ℕ) → Filled n f xs k → n ≤ k → length ys ≡ n → ((i : ℕ) → i < n → f i ≡ get_or ys i (pos 0)) → xs ≡ ys
-filled_all n f xs ys k h l m e =
-    let s = h.sized in
-    ext_get_or (pos 0) xs ys (s ∙ sym m) (λ i b. h.so_far i (omega arith) ∙ e i (omega arith))
+  -- the list of a function's values
+  pub values_made : (ys : List B) (n : ℕ) (d : B) → IsFromFnResult g f ys n → ys ≡ map h (range_with_len 0 n)
+  values_made ys n d m = array_made ys (map h (range_with_len 0 n)) n d m (length-map-range_with_len h 0 n) (λ i l. sym (get_or-map-range_with_len h 0 n i i d l (omega arith)))

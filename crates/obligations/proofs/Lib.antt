@@ -1,5 +1,4 @@
 pub mod Joining
-pub mod ReadPlain
 pub mod FilledArrays
 pub mod UnmetRows
 pub mod Expressions
@@ -7,7 +6,5 @@ pub mod PlanSteps
 pub mod GoalBounds
 pub mod ShortLists
 pub mod EntryTests
-pub mod GivenParts
 pub mod RelatedQuestions
-pub mod SheetFronts
 pub mod CountedLists

@@ -1,10 +1,6 @@
 -- A question or an obligation that is the computed one is that of the relation.
 use Rattle.std.proofs.Common.{◌≡◌, ℕ, IfSome, Some, None, Option, sym, ◌∙◌, arith, MatchOption}
 use Rattle.std.specs.Option.{option_map}
-use Rattle.records.specs.declared.records.Transition.{Transition}
-use Rattle.records.specs.declared.records.Place.{Place}
-use Rattle.records.specs.declared.records.Inner.{Inner}
-use Rattle.records.specs.declared.register.Register.{Register}
 use Rattle.records.specs.Bounded.{listed}
 use Rattle.records.specs.Lists.{at}
 use Rattle.records.specs.Records.{HeadingData, TableData, WitnessData}
@@ -14,6 +10,7 @@ use Rattle.semantics.specs.Laws.{Fitting}
 use Rattle.semantics.specs.Obligations.{ObligationOf, Poses}
 use Rattle.semantics.proofs.Listing.{obligations_agree_lem}
 use Rattle.semantics.proofs.Members.{at_member}
+use Rattle.obligations.specs.declared.lookups.Records.{Records}
 use Rattle.obligations.specs.declared.question.Question.{Question}
 use Rattle.obligations.specs.Questions.{Asks, Relates, Obliges, table_of, witness_of, posed_by}
 
@@ -25,18 +22,14 @@ relates_in table witness o None fit e = λ x.
     let s : ◌≡◌ {A = Option Posed} None (Some (posed x.0 x.1)) = e ∙ h in
     let z : ◌≡◌ {A = ℕ} 0 1 = cc in omega arith
 
-pub record Answered (table : Register Transition) (places : Register Place) (inners : Register Inner) (o : Obligation) (r : Option Question) : Type 0 where
-  pub value : Asks (λ (t : TableData) (w : WitnessData). question_of t w o) table places inners r
-  pub related : Relates table places inners o r
-
-pub answered : (table : Register Transition) (places : Register Place) (inners : Register Inner) (o : Obligation) (r : Option Question) → Asks (λ (t : TableData) (w : WitnessData). question_of t w o) table places inners r → Answered table places inners o r
-answered table places inners o r e = record { value = e; related = λ heading fit. relates_in _ _ o r fit (e heading) }
+pub relates : (records : Records) (o : Obligation) (r : Option Question) → Asks (λ (t : TableData) (w : WitnessData). question_of t w o) records r → Relates records o r
+relates records o r e heading fit = relates_in _ _ o r fit (e heading)
 
 -- the obligation with an index
 obliges_in : (table : TableData) (witness : WitnessData) (k : ℕ) (r : Option Obligation) → Fitting table witness → r ≡ at k (obligations_of table witness) → IfSome r (ObligationOf table witness)
 obliges_in table witness k None fit e = tt
 obliges_in table witness k (Some o) fit e = (obligations_agree_lem table witness fit).lists o (at_member (obligations_of table witness) k o (sym e))
 
-pub obliges : (table : Register Transition) (places : Register Place) (inners : Register Inner) (k : ℕ) (r : Option Obligation) →
-    ((heading : HeadingData) → r ≡ at k (obligations_of (table_of heading table) (witness_of places inners))) → Obliges table places inners r
-obliges table places inners k r e heading fit = obliges_in _ _ k r fit (e heading)
+pub obliges : (records : Records) (k : ℕ) (r : Option Obligation) →
+    ((heading : HeadingData) → r ≡ at k (obligations_of (table_of heading records) (witness_of records))) → Obliges records r
+obliges records k r e heading fit = obliges_in _ _ k r fit (e heading)

@@ -1,8 +1,5 @@
-pub mod Numbers
-pub mod NumbersMade
 pub mod Unmet
 pub mod Facts
 pub mod Questions
 pub mod Sheets
 pub mod Listings
-pub mod Goals

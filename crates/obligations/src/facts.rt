@@ -1,5 +1,5 @@
 // The facts of obligations: rows put behind one another.
-ghost use Rattle.std.specs.Prelude.{◌≡◌, ℕ, ◌+◌, ◌≤◌, [], ◌++◌, map, length, take, slice_index_or};
+ghost use Rattle.std.specs.Prelude.{◌≡◌, ℕ, ◌+◌, ◌≤◌, [], ◌++◌, map, length, take};
 ghost use Rattle.obligations.specs.Facts.{most_facts};
 ghost use Rattle.records.specs.Bounded.{listed, plain_list};
 ghost use Rattle.records.specs.Limits.{most_tested};
@@ -7,11 +7,9 @@ ghost use Rattle.records.specs.Records.{row_of, entry_of, transition_of, place_r
 ghost use Rattle.rows.specs.Shapes.{opposite_of};
 ghost use Rattle.semantics.specs.Enumerated.{entry_transition, entry_facts};
 ghost use Rattle.semantics.specs.Obligations.{tests};
-ghost use Rattle.rows.specs.Zeros.{zero_numbers};
 
-use crate::reading::read_at;
 use records::limits::MOST_TESTED;
-use records::{BoundedList, Place, PlanEntry, Transition, Written};
+use records::{BoundedList, Place, PlanEntry, Transition};
 use rows::limits::COLUMNS;
 use rows::{Numbers, WrittenRow};
 
@@ -36,8 +34,7 @@ pub(crate) fn add_rows<const N: usize>(facts: &mut Facts, rows: &BoundedList<Wri
     requires { length (listed facts.old) + N ≤ most_facts }
     ensures { listed facts.new ≡ listed facts.old ++ plain_list row_of rows.now }
 {
-    for index in 0..rows.len() {
-        let row = read_at(rows, index);
+    for row in rows.as_slice() {
         facts.push(*row.numbers());
     }
 }
@@ -52,23 +49,13 @@ pub(crate) fn condition_and_guard(place: &Place, transition: &Transition) -> Fac
     facts
 }
 
-// The test of an entry of a plan, or the row of zeros where there is no such entry with a test.
-fn test_at(tested: &BoundedList<PlanEntry, MOST_TESTED>, index: usize) -> WrittenRow
-    ensures { row_of result ≡ slice_index_or (tests (plain_list entry_of tested.now)) index zero_numbers }
-{
-    match tested.get(index) {
-        Some(entry) => entry.test,
-        None => WrittenRow::zero(),
-    }
-}
-
 // Puts the opposites of the first tests of a plan behind the facts.
 fn add_opposites(facts: &mut Facts, tested: &BoundedList<PlanEntry, MOST_TESTED>, count: usize)
     requires { length (listed facts.old) + most_tested ≤ most_facts }
     ensures { listed facts.new ≡ listed facts.old ++ map opposite_of (take count (tests (plain_list entry_of tested.now))) }
 {
-    for index in 0..count.min(tested.len()) {
-        let opposite = test_at(tested, index).opposite();
+    for entry in tested.as_slice().iter().take(count) {
+        let opposite = entry.test.opposite();
         facts.push(*opposite.numbers());
     }
 }
@@ -77,11 +64,12 @@ fn add_opposites(facts: &mut Facts, tested: &BoundedList<PlanEntry, MOST_TESTED>
 pub(crate) fn entry_transition(place: &Place, entry: usize) -> Option<u16>
     ensures { result ≡ entry_transition (place_record_of place.now) entry }
 {
-    match place.tested.get(entry) {
-        Some(tested) => Some(tested.transition),
-        None if entry == place.tested.len() => Some(place.last),
-        None => None,
-    }
+    let last = (entry == place.tested.len()).then_some(place.last);
+    place
+        .tested
+        .get(entry)
+        .map(|tested| tested.transition)
+        .or(last)
 }
 
 // What holds where the plan of a place takes an entry: the condition, no test before the entry, and the entry's own.

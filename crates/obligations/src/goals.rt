@@ -1,6 +1,5 @@
 // The goals of obligations: a row after an update, and a row with the choice expressions put in.
-ghost use Rattle.std.specs.Prelude.{◌≡◌, ℕ, ◌+◌, ◌≤◌, ◌+ℤ◌, ◌-ℤ◌};
-ghost use Rattle.obligations.specs.Goals.{Addends};
+ghost use Rattle.std.specs.Prelude.{◌≡◌, ℕ, ◌+◌, ◌≤◌, ◌-ℤ◌};
 ghost use Rattle.records.specs.Bounded.{plain_list};
 ghost use Rattle.records.specs.Records.{row_of, expression_of, transition_of, inner_of};
 ghost use Rattle.rows.specs.Limits.{columns, magnitude_of};
@@ -9,21 +8,21 @@ ghost use Rattle.rows.specs.declared.limits.Limit.TheVariants.{RowNumber};
 ghost use Rattle.semantics.specs.Goals.{combined as combined_item, kept_or_zero, after_update, with_choices};
 ghost use Rattle.semantics.specs.Laws.{UpdateGoal, ChoiceGoal};
 
-use crate::reading::read_at;
 use records::limits::MOST_VALUES;
 use records::{BoundedList, Inner, Transition};
 use rows::limits::COLUMNS;
 use rows::{Expression, Numbers, WrittenRow};
+use std::array;
 
 // An expression's number of an item, its constant as a bound.
 fn item_of(expression: &Expression, item: usize) -> i64
     ensures { result ≡ item_of (expression_of expression.now) item }
 {
-    if item < COLUMNS {
-        expression.coefficients()[item]
-    } else {
-        expression.constant()
-    }
+    expression
+        .coefficients()
+        .get(item)
+        .copied()
+        .unwrap_or(expression.constant())
 }
 
 // A number of the sum of expressions, each times the row's coefficient of its column; the first column is `from`.
@@ -36,29 +35,13 @@ fn combined<const N: usize>(
     requires { from + N ≤ columns }
     ensures { result ≡ combined_item (row_of row.now) from N (plain_list expression_of expressions.now) item }
 {
-    let coefficients = &row.numbers().coefficients;
+    let coefficients = &row.numbers().coefficients[from..];
     let mut sum: i64 = 0;
-    for index in 0..N {
-        let expression = read_at(expressions, index);
-        let product = coefficients[from + index] * item_of(&expression, item);
+    for (coefficient, expression) in coefficients.iter().zip(expressions.as_slice()) {
+        let product = *coefficient * item_of(expression, item);
         sum += product;
     }
     sum
-}
-
-// A number of a row and a number of that sum, and the one less the other.
-fn raised_by(number: i64, sum: i64) -> i64
-    requires { Addends number sum }
-    ensures { result ≡ number +ℤ sum }
-{
-    number + sum
-}
-
-fn lowered_by(number: i64, sum: i64) -> i64
-    requires { Addends number sum }
-    ensures { result ≡ number -ℤ sum }
-{
-    number - sum
 }
 
 // The row's bound less the constant of that sum.
@@ -70,10 +53,7 @@ fn lowered_bound<const N: usize>(
     requires { from + N ≤ columns }
     ensures { result ≡ (row_of row.now).bound -ℤ combined_item (row_of row.now) from N (plain_list expression_of expressions.now) columns }
 {
-    lowered_by(
-        row.numbers().bound,
-        combined(row, from, expressions, COLUMNS),
-    )
+    row.numbers().bound - combined(row, from, expressions, COLUMNS)
 }
 
 // The row that holds before a transition exactly where the row holds after it.
@@ -82,10 +62,7 @@ pub fn after_update(transition: &Transition, row: &WrittenRow) -> Numbers
     ensures held { Within (magnitude_of RowNumber) result }
     ensures carried { UpdateGoal (transition_of transition.now) (row_of row.now) result }
 {
-    let mut coefficients = [0; COLUMNS];
-    for column in 0..COLUMNS {
-        coefficients[column] = combined(row, 0, &transition.updates, column);
-    }
+    let coefficients = array::from_fn(|column| combined(row, 0, &transition.updates, column));
     let bound = lowered_bound(row, 0, &transition.updates);
     Numbers {
         coefficients,
@@ -98,10 +75,7 @@ fn kept_or_zero(inner: &Inner, row: &WrittenRow, column: usize) -> i64
     ensures { result ≡ kept_or_zero (row_of row.now) (inner_of inner.now).choices column }
 {
     if column < MOST_VALUES {
-        raised_by(
-            row.numbers().coefficients[column],
-            combined(row, MOST_VALUES, &inner.choices, column),
-        )
+        row.numbers().coefficients[column] + combined(row, MOST_VALUES, &inner.choices, column)
     } else {
         0
     }
@@ -113,10 +87,7 @@ pub fn with_choices(inner: &Inner, row: &WrittenRow) -> Numbers
     ensures held { Within (magnitude_of RowNumber) result }
     ensures carried { ChoiceGoal (inner_of inner.now) (row_of row.now) result }
 {
-    let mut coefficients = [0; COLUMNS];
-    for column in 0..COLUMNS {
-        coefficients[column] = kept_or_zero(inner, row, column);
-    }
+    let coefficients = array::from_fn(|column| kept_or_zero(inner, row, column));
     let bound = lowered_bound(row, MOST_VALUES, &inner.choices);
     Numbers {
         coefficients,

@@ -1,43 +1,51 @@
-// Finding the transition, the inner transition and the listed place with a number, and the row with an index.
-ghost use Rattle.std.specs.Prelude.{◌≡◌, ℕ, map};
+// The records of a table and a witness, and finding one of them by its number.
+ghost use Rattle.std.specs.Prelude.{◌≡◌, ℕ};
+ghost use Rattle.obligations.specs.Questions.{bare_table, witness_of};
 ghost use Rattle.records.specs.Bounded.{plain_list};
-ghost use Rattle.records.specs.Held.{held};
 ghost use Rattle.records.specs.Lists.{at, first_with};
-ghost use Rattle.records.specs.Records.{TransitionData, PlaceData, InnerData, row_of, transition_of, place_record_of, inner_of};
-ghost use Rattle.std.specs.Option.{option_map};
+ghost use Rattle.records.specs.Records.{row_of, transition_of, place_record_of, inner_of};
+ghost use Rattle.semantics.specs.Plans.{transition_with, inner_with, place_with};
+ghost use Rattle.std.specs.Option.{option_map, option_copied};
 
-use records::{BoundedList, Inner, Numbered, Place, Register, Transition};
+use records::{BoundedList, Inner, Numbered, Place, Transition};
 use rows::WrittenRow;
 
-// The first record with a number, if there is one.
-fn record_with<T: Copy + Numbered>(register: &Register<'_, T>, number: u16) -> Option<T>
-    ensures { result ≡ first_with T.Numbered.number number (held register.now) }
-{
-    match register.find(number) {
-        Some(place) => register.get(place),
-        None => None,
+// The transitions of a table, and the listed places and the inner transitions of a witness.
+#[derive(Clone, Copy)]
+pub struct Records<'a> {
+    pub transitions: &'a [Transition],
+    pub places: &'a [Place],
+    pub inners: &'a [Inner],
+}
+
+impl<'a> Records<'a> {
+    // The table's transition with a number.
+    pub(crate) fn transition_with(&self, number: u16) -> Option<&'a Transition>
+        ensures { option_map transition_of (option_copied result) ≡ transition_with (bare_table self.now) number }
+    {
+        record_with(self.transitions, number)
+    }
+
+    // The witness's inner transition with a number.
+    pub(crate) fn inner_with(&self, number: u16) -> Option<&'a Inner>
+        ensures { option_map inner_of (option_copied result) ≡ inner_with (witness_of self.now) number }
+    {
+        record_with(self.inners, number)
+    }
+
+    // The witness's listed place with a number.
+    pub(crate) fn place_with(&self, number: u16) -> Option<&'a Place>
+        ensures { option_map place_record_of (option_copied result) ≡ place_with (witness_of self.now) number }
+    {
+        record_with(self.places, number)
     }
 }
 
-// The table's transition with a number.
-pub(crate) fn transition_with(table: &Register<'_, Transition>, number: u16) -> Option<Transition>
-    ensures { option_map transition_of result ≡ first_with (λ (t : TransitionData). t.number) number (map transition_of (held table.now)) }
+// The first record with a number, if there is one.
+fn record_with<T: Numbered>(records: &[T], number: u16) -> Option<&T>
+    ensures { option_copied result ≡ first_with T.Numbered.number number records.now }
 {
-    record_with(table, number)
-}
-
-// The witness's inner transition with a number.
-pub(crate) fn inner_with(inners: &Register<'_, Inner>, number: u16) -> Option<Inner>
-    ensures { option_map inner_of result ≡ first_with (λ (i : InnerData). i.number) number (map inner_of (held inners.now)) }
-{
-    record_with(inners, number)
-}
-
-// The witness's listed place with a number.
-pub(crate) fn place_with(places: &Register<'_, Place>, number: u16) -> Option<Place>
-    ensures { option_map place_record_of result ≡ first_with (λ (p : PlaceData). p.number) number (map place_record_of (held places.now)) }
-{
-    record_with(places, number)
+    records.iter().find(|record| record.number() == number)
 }
 
 // The row with an index, if there is one.

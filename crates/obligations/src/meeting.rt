@@ -1,25 +1,29 @@
 // The rows of a table and of a witness at a point: the first that is not met.
-ghost use Rattle.std.specs.Prelude.{ℕ, ◌≤◌};
+ghost use Rattle.std.specs.Prelude.{◌≡◌, ℕ, ◌≤◌};
+ghost use Rattle.semantics.specs.Plans.{meets};
 ghost use Rattle.obligations.specs.Unmet.{FirstUnmet};
 ghost use Rattle.records.specs.Bounded.{plain_list};
 ghost use Rattle.records.specs.Records.{row_of, heading_of, transition_of, place_record_of, inner_of};
 
-use crate::reading::read_at;
 use records::{BoundedList, Heading, Inner, Place, Transition};
 use rows::{Point, WrittenRow};
+
+// Whether the point meets a row, said by an equation.
+pub(crate) fn meets(point: &Point, row: &WrittenRow) -> bool
+    ensures { result ≡ meets point.now.values (row_of row.now) }
+{
+    row.is_met(point)
+}
 
 // The index of the first row that the point does not meet; none where it meets all.
 fn first_unmet<const N: usize>(rows: &BoundedList<WrittenRow, N>, point: &Point) -> Option<u8>
     requires { N ≤ 256 }
     ensures { FirstUnmet point.now.values (plain_list row_of rows.now) result }
 {
-    for index in 0..rows.len() {
-        let row = read_at(rows, index);
-        if !row.is_met(point) {
-            return Some(index as u8);
-        }
-    }
-    None
+    rows.as_slice()
+        .iter()
+        .position(|row| !meets(point, row))
+        .map(|index| index as u8)
 }
 
 // The first initial row of a table that the point does not meet.

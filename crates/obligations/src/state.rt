@@ -1,15 +1,30 @@
-// The values of a state, held to the limit of state values.
-ghost use Rattle.std.specs.Prelude.{ℕ, ◌<◌};
-ghost use Rattle.obligations.specs.Numbers.{StateNumbers};
-ghost use Rattle.records.specs.Limits.{most_values};
+// The values of a state and the choices of a step, and the points that they are.
+ghost use Rattle.std.specs.Prelude.{◌≡◌};
+ghost use Rattle.semantics.specs.Vectors.{at_rest, point_of};
 
-use records::limits::MOST_VALUES;
+use records::limits::{MOST_CHOICES, MOST_VALUES};
+use rows::limits::COLUMNS;
+use rows::{Point, Values};
 
-// The six values of a state, none outside ±1,000,000,000.
-#[derive(Clone, Copy)]
-pub struct State {
-    values: [i64; MOST_VALUES],
-    ghost held: { StateNumbers most_values values },
+// The values of a state, and the choices of a step.
+pub type State = Values<MOST_VALUES>;
+
+pub type Choices = Values<MOST_CHOICES>;
+
+// The point of a state alone, its choices zero.
+pub fn at_rest(state: &State) -> Point
+    ensures { result.values ≡ at_rest state.now.values }
+{
+    let no_choices = Choices::new([0; MOST_CHOICES]).unwrap();
+    point_of(state, &no_choices)
 }
 
-pub mod methods;
+// The point of a state and of choices.
+pub fn point_of(state: &State, choices: &Choices) -> Point
+    ensures { result.values ≡ point_of state.now.values choices.now.values }
+{
+    let mut all = [0; COLUMNS];
+    all[..MOST_VALUES].copy_from_slice(&state.values());
+    all[MOST_VALUES..].copy_from_slice(&choices.values());
+    Point::new(all).unwrap()
+}

@@ -1,129 +1,131 @@
-// Counting through the obligations of each kind, and of all.
-ghost use Rattle.std.specs.Prelude.{◌≡◌, ℕ, map};
+// Counting through the obligations of each kind, and of all: a count breaks off at the one with the index, or goes on
+// behind the last with what is left of the index.
+ghost use Rattle.std.specs.Prelude.{◌≡◌, ℕ, ◌≤◌, map};
 ghost use Rattle.obligations.specs.Listings.{Reached};
-ghost use Rattle.obligations.specs.Questions.{table_of, witness_of, Obliges};
-ghost use Rattle.records.specs.Held.{held};
+ghost use Rattle.obligations.specs.Questions.{table_of, bare_table, witness_of, Obliges};
 ghost use Rattle.records.specs.Lists.{at};
 ghost use Rattle.records.specs.Records.{HeadingData, transition_of, place_record_of, inner_of};
-ghost use Rattle.semantics.specs.Enumerated.{gathered, consecutions_of, restrictions_of, guards_of, exits_of, obligations_of};
+ghost use Rattle.semantics.specs.Enumerated.{gathered, consecutions_of, restrictions_of, guards_at, guards_of, exits_of, obligations_of};
+ghost use Rattle.std.specs.List.{range_with_len};
 
-use crate::listing::Counted;
-use crate::listing::groups::{guard_rows, is_exit, target_rows};
-use records::{Inner, Place, Register, Transition};
+use crate::lookups::Records;
+use records::{Inner, Place, Transition};
 use semantics::Obligation;
+use std::ops::ControlFlow;
 
-// C: for each inner transition the rows of its target's condition.
-fn consecution_at(
-    table: &Register<'_, Transition>,
-    places: &Register<'_, Place>,
-    inners: &Register<'_, Inner>,
-    index: usize,
-) -> Counted
-    ensures { (heading : HeadingData) → Reached index (gathered (consecutions_of (table_of heading table.now) (witness_of places.now inners.now)) (map inner_of (held inners.now))) result }
+// The row with the index, among so many rows.
+fn row_at(rows: usize, index: usize) -> ControlFlow<u8, usize>
+    requires { rows ≤ 256 }
+    ensures { Reached index (range_with_len 0 rows) result }
 {
-    let mut left = index;
-    for at in 0..inners.len() {
-        let inner = inners.get(at).unwrap();
-        let rows = target_rows(table, places, inner.number);
-        if left < rows {
-            return Counted::At(Obligation::Consecution(inner.number, left as u8));
-        }
-        left -= rows;
+    match index.checked_sub(rows) {
+        Some(left) => ControlFlow::Continue(left),
+        None => ControlFlow::Break(index as u8),
     }
-    Counted::Left(left)
 }
 
-// R: for each inner transition its restriction rows.
-fn restriction_at(inners: &Register<'_, Inner>, index: usize) -> Counted
-    ensures { Reached index (gathered restrictions_of (map inner_of (held inners.now))) result }
+// R: the restriction rows of an inner transition.
+fn restriction_in(inner: &Inner, index: usize) -> ControlFlow<Obligation, usize>
+    ensures { Reached index (restrictions_of (inner_of inner.now)) result }
 {
-    let mut left = index;
-    for at in 0..inners.len() {
-        let inner = inners.get(at).unwrap();
-        let rows = inner.restrictions.len();
-        if left < rows {
-            return Counted::At(Obligation::Restriction(inner.number, left as u8));
-        }
-        left -= rows;
-    }
-    Counted::Left(left)
+    row_at(inner.restrictions.len(), index).map_break(|row| Obligation::Restriction(
+        inner.number,
+        row,
+    ))
 }
 
-// G: for each entry of a place's plan the guard rows of its transition.
-fn guard_in(table: &Register<'_, Transition>, place: &Place, index: usize) -> Counted
-    ensures { (heading : HeadingData) → Reached index (guards_of (table_of heading table.now) (place_record_of place.now)) result }
-{
-    let mut left = index;
-    for position in 0..place.tested.len() + 1 {
-        let rows = guard_rows(table, place, position);
-        if left < rows {
-            return Counted::At(Obligation::Guard(place.number, position as u8, left as u8));
-        }
-        left -= rows;
+impl<'a> Records<'a> {
+    // C: the rows of the condition of an inner transition's target.
+    fn consecution_in(&self, inner: &Inner, index: usize) -> ControlFlow<Obligation, usize>
+        ensures { Reached index (consecutions_of (bare_table self.now) (witness_of self.now) (inner_of inner.now)) result }
+    {
+        row_at(self.target_rows(inner.number), index).map_break(|row| Obligation::Consecution(
+            inner.number,
+            row,
+        ))
     }
-    Counted::Left(left)
-}
 
-// The same for each listed place.
-fn guard_at(table: &Register<'_, Transition>, places: &Register<'_, Place>, index: usize) -> Counted
-    ensures { (heading : HeadingData) → Reached index (gathered (guards_of (table_of heading table.now)) (map place_record_of (held places.now))) result }
-{
-    let mut left = index;
-    for at in 0..places.len() {
-        let place = places.get(at).unwrap();
-        match guard_in(table, &place, left) {
-            Counted::At(obligation) => return Counted::At(obligation),
-            Counted::Left(rest) => left = rest,
-        }
+    // G: the guard rows of the transition of an entry of a plan.
+    fn entry_guard_in(
+        &self,
+        place: &Place,
+        entry: u8,
+        index: usize,
+    ) -> ControlFlow<Obligation, usize>
+        ensures { Reached index (guards_at (bare_table self.now) (place_record_of place.now) entry) result }
+    {
+        row_at(self.guard_rows(place, usize::from(entry)), index).map_break(|row| Obligation::Guard(
+            place.number,
+            entry,
+            row,
+        ))
     }
-    Counted::Left(left)
-}
 
-// X: for each transition one obligation, if the transition leaves a listed place and is not inner.
-fn exit_at(
-    table: &Register<'_, Transition>,
-    places: &Register<'_, Place>,
-    inners: &Register<'_, Inner>,
-    index: usize,
-) -> Counted
-    ensures { Reached index (gathered (exits_of (witness_of places.now inners.now)) (map transition_of (held table.now))) result }
-{
-    let mut left = index;
-    for at in 0..table.len() {
-        let transition = table.get(at).unwrap();
-        let exits = usize::from(is_exit(places, inners, &transition));
-        if left < exits {
-            return Counted::At(Obligation::Exit(transition.number));
-        }
-        left -= exits;
+    // G: the same for each entry of a place's plan.
+    fn guard_in(&self, place: &Place, index: usize) -> ControlFlow<Obligation, usize>
+        ensures { Reached index (guards_of (bare_table self.now) (place_record_of place.now)) result }
+    {
+        let entries = place.tested.len() as u8 + 1;
+        (0..entries).try_fold(index, |left, entry| self.entry_guard_in(place, entry, left))
     }
-    Counted::Left(left)
-}
 
-// The obligation with an index; none where there are no more than that.
-pub fn obligation_at(
-    table: &Register<'_, Transition>,
-    places: &Register<'_, Place>,
-    inners: &Register<'_, Inner>,
-    index: usize,
-) -> Option<Obligation>
-    ensures value { (heading : HeadingData) → result ≡ at index (obligations_of (table_of heading table.now) (witness_of places.now inners.now)) }
-    ensures related { Obliges table.now places.now inners.now result }
-{
-    let past_consecutions = match consecution_at(table, places, inners, index) {
-        Counted::At(obligation) => return Some(obligation),
-        Counted::Left(left) => left,
-    };
-    let past_restrictions = match restriction_at(inners, past_consecutions) {
-        Counted::At(obligation) => return Some(obligation),
-        Counted::Left(left) => left,
-    };
-    let past_guards = match guard_at(table, places, past_restrictions) {
-        Counted::At(obligation) => return Some(obligation),
-        Counted::Left(left) => left,
-    };
-    match exit_at(table, places, inners, past_guards) {
-        Counted::At(obligation) => Some(obligation),
-        Counted::Left(_) => None,
+    // X: the transition itself, if it leaves a listed place and is not inner.
+    fn exit_in(&self, transition: &Transition, index: usize) -> ControlFlow<Obligation, usize>
+        ensures { Reached index (exits_of (witness_of self.now) (transition_of transition.now)) result }
+    {
+        row_at(usize::from(self.is_exit(transition)), index).map_break(|_| Obligation::Exit(
+            transition.number,
+        ))
+    }
+
+    // The same for each record of a kind.
+    fn consecution_at(&self, index: usize) -> ControlFlow<Obligation, usize>
+        ensures { Reached index (gathered (consecutions_of (bare_table self.now) (witness_of self.now)) (map inner_of self.now.inners.now)) result }
+    {
+        self.inners
+            .iter()
+            .try_fold(index, |left, inner| self.consecution_in(inner, left))
+    }
+
+    fn restriction_at(&self, index: usize) -> ControlFlow<Obligation, usize>
+        ensures { Reached index (gathered restrictions_of (map inner_of self.now.inners.now)) result }
+    {
+        self.inners
+            .iter()
+            .try_fold(index, |left, inner| restriction_in(inner, left))
+    }
+
+    fn guard_at(&self, index: usize) -> ControlFlow<Obligation, usize>
+        ensures { Reached index (gathered (guards_of (bare_table self.now)) (map place_record_of self.now.places.now)) result }
+    {
+        self.places
+            .iter()
+            .try_fold(index, |left, place| self.guard_in(place, left))
+    }
+
+    fn exit_at(&self, index: usize) -> ControlFlow<Obligation, usize>
+        ensures { Reached index (gathered (exits_of (witness_of self.now)) (map transition_of self.now.transitions.now)) result }
+    {
+        self.transitions
+            .iter()
+            .try_fold(index, |left, transition| self.exit_in(transition, left))
+    }
+
+    // All obligations, one kind after another.
+    fn counted_to(&self, index: usize) -> ControlFlow<Obligation, usize>
+        ensures { Reached index (obligations_of (bare_table self.now) (witness_of self.now)) result }
+    {
+        let past_consecutions = self.consecution_at(index)?;
+        let past_restrictions = self.restriction_at(past_consecutions)?;
+        let past_guards = self.guard_at(past_restrictions)?;
+        self.exit_at(past_guards)
+    }
+
+    // The obligation with an index; none where there are no more than that.
+    pub fn obligation_at(&self, index: usize) -> Option<Obligation>
+        ensures value { (heading : HeadingData) → result ≡ at index (obligations_of (table_of heading self.now) (witness_of self.now)) }
+        ensures related { Obliges self.now result }
+    {
+        self.counted_to(index).break_value()
     }
 }

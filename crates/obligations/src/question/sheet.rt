@@ -12,14 +12,11 @@ impl Question {
     pub fn lay_out(&self, sheet: &mut [Numbers]) -> Option<usize>
         ensures { Laid (listed self.now.facts) sheet.old sheet.new result }
     {
-        if sheet.len() < self.facts.len() {
+        let facts = self.facts.as_slice();
+        if sheet.len() < facts.len() {
             return None;
         }
-        let mut index = 0;
-        while let Some(fact) = self.facts.get(index) {
-            sheet[index] = fact;
-            index += 1;
-        }
-        Some(index)
+        sheet[..facts.len()].copy_from_slice(facts);
+        Some(facts.len())
     }
 }

@@ -33,12 +33,6 @@ own c o e =
     ap (λ (x : Option EntryData). plain_list row_of c.args.place.now.condition ++ (map opposite_of (take c.args.entry (tests (plain_list entry_of c.args.place.now.tested))) ++ own_test x))
     (at_plain entry_of c.args.entry (listed c.args.place.now.tested) o e)
 
-pub add_opposites-requires : goal.add_opposites-requires
-add_opposites-requires c =
-    let e = ap length (conditions (goal.at.add_opposites-requires c).After-add_rows) in
-    let m = plain_most row_of c.args.place.now.condition in
-    omega (arith, e, m)
-
 pub returns-in-Some : goal.returns-in-Some
 returns-in-Some c =
     let cs = plain_list row_of c.args.place.now.condition in

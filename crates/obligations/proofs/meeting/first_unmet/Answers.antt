@@ -1,33 +1,22 @@
-use Rattle.std.proofs.Common.{◌≡◌, ℕ, ◌<◌, ◌≤◌, not, get_or, sym, ap, ◌∙◌, subst, below_more}
-use Rattle.std.proofs.lemmas.List.{length-map}
-use Rattle.rows.specs.Zeros.{zero_numbers}
+use Rattle.std.proofs.Common.{◌≡◌, ℕ, Some, None, Option, sym, ap, subst, rules, tests, MatchOption, IsSomeAnd}
+use Rattle.std.proofs.lemmas.Iterator.{YieldsList-from_slice, IsFirst-from_position}
 use Rattle.records.specs.Bounded.{listed, plain_list}
 use Rattle.records.specs.Records.{row_of}
-use Rattle.semantics.specs.Plans.{meets}
-use Rattle.obligations.proofs.UnmetRows.{met_at, none_unmet, some_unmet}
+use Rattle.obligations.specs.Unmet.{FirstUnmet}
+use Rattle.obligations.proofs.UnmetRows.{Answers, first_unmet_found}
 use Rattle.obligations.proofs.meeting.first_unmet.Goals as goal
-use Rattle.obligations.proofs.meeting.first_unmet.Goals.{After-is_met}
-use Rattle.obligations.proofs.meeting.first_unmet.Given as given
+use Rattle.std.proofs.Common.{true, false}
 
-module _ (g : given.Over) (c : After-is_met g) where
-  -- what the code tests is the row with the index
-  tested : c.is_met.result ≡ meets c.args.point.now.values (get_or (plain_list row_of c.args.rows.now) c.loop-index.index zero_numbers)
-  tested =
-      met_at c.args.point.now.values c.read_at-row.result.numbers (plain_list row_of c.args.rows.now) c.loop-index.index _ c.is_met.ensures
-      c.read_at-row.ensures
-
-pub returns-then-not-is_met : goal.returns-then-not-is_met
-returns-then-not-is_met g c =
-    let t = tested g (goal.at.returns-then-not-is_met g c).After-is_met in
-    let l = subst (λ (n : ℕ). c.loop-index.index < n) (c.len-index-end.ensures.value ∙ sym (length-map (listed c.args.rows.now) row_of)) c.loop-index-test.true in
-    some_unmet c.args.point.now.values (plain_list row_of c.args.rows.now) c.loop-index.index l (ap not (sym t ∙ c.if-not-is_met.true)) c.loop-index.invariant
-
-pub loop-index-preserved : goal.loop-index-preserved
-loop-index-preserved g c =
-    let t = tested g (goal.at.loop-index-preserved g c).After-is_met in
-    below_more _ _ c.loop-index.invariant (ap not (sym t ∙ c.if-not-is_met.false))
+-- the index as another type's number is the same
+same : (P : ℕ → ℕ → Type 0) → ((i k : ℕ) → P i k → k ≡ i) → (o r : Option ℕ) → MatchOption o (r ≡ None) (λ i. IsSomeAnd r (P i)) → o ≡ r
+same P p None r h = sym h
+same P p (Some i) None h = absurd h
+same P p (Some i) (Some k) h = ap (λ (n : ℕ). Some n) (sym (p i k h))
 
 pub returns : goal.returns
 returns g c =
-    let l = subst (λ (n : ℕ). n ≤ c.loop-index.index) (c.len-index-end.ensures.value ∙ sym (length-map (listed c.args.rows.now) row_of)) c.loop-index-test.false in
-    none_unmet c.args.point.now.values (plain_list row_of c.args.rows.now) c.loop-index.index l c.loop-index.invariant
+    let rows = listed c.args.rows.now in
+    let point = c.args.point.now.values in
+    subst (FirstUnmet point (plain_list row_of c.args.rows.now)) (same _ (λ i k h. search rules) c.position.result c.map.result c.map.ensures.cases)
+    (first_unmet_found point rows c.position.result
+    (IsFirst-from_position _ _ c.position.result (Answers point rows false) (Answers point rows true) c.position.ensures.ran (YieldsList-from_slice rows cc) (λ x q k. search (rules, tests)) (λ x q k. search (rules, tests))))
