@@ -70,9 +70,11 @@ module _ (item : ℕ) (bytes : List ℕ) (at : ℕ) (facts : List Numbers) (i : 
       ∙ ap (λ (k : ℕ). weighted item bytes at (take i facts) +ℤ pos (word_at bytes (at + 2 * k)) *ℤ item_of (get_or facts i d) item) n in
       ap (λ (z : ℤ). z +ℤ pos (word_at bytes (at + 2 * i)) *ℤ item_of (get_or facts i d) item) e ∙ sym s
 
-  pub coded : (bits : ℕ) (m x : ℤ) → Weighable bytes at facts → i < length facts → SFits w64 m → SFits w64 x →
+  pub coded : (bits : ℕ) (m x : ℤ) → Weighable bytes at facts → i < length facts →
       m ≡ pos (word_at bytes (at + 2 * i)) → x ≡ item_of (get_or facts i d) item → Turn item bytes at facts i (to_z w64 bits) → Coded item bytes at facts i bits m x
-  coded bits m x w l fm fx em ex t =
+  coded bits m x w l em ex t =
+      let fm : SFits w64 m = subst (SFits w64) (sym em) (bounded_fits most_weight _ (lit< tt) (weight_bounded _ (w.in_range_lem i l))) in
+      let fx : SFits w64 x = subst (SFits w64) (sym ex) (bounded_fits (magnitude_of RowNumber) _ (lit< tt) (item_bounded (magnitude_of RowNumber) _ (All-get_or (Within (magnitude_of RowNumber)) facts i d l w.are_rows) item)) in
       let p : Bounded most_product (m *ℤ x) = rw (em, ex) (product_small w l) in
       let few : i < most_facts = omega (arith, w.few) in
       let a = turn i most_facts most_product bits m x few (lit< tt) fm fx p t.small in

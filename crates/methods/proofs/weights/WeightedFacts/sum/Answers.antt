@@ -1,13 +1,11 @@
-use Rattle.std.proofs.Common.{ℕ, pos, ap, ◌∙◌, w64, SFits, rules}
+use Rattle.std.proofs.Common.{ℕ, pos, ap, ◌∙◌}
 use Rattle.methods.proofs.WeightedSums.{Coded, coded}
 use Rattle.methods.proofs.weights.WeightedFacts.sum.Goals as goal
 
 -- one turn of the loop
 turned : (c : goal.After-item) → Coded c.args.item c.args.self.now.certificate.now c.args.self.now.from c.args.self.now.facts.now c.loop-index.index c.loop-index.sum-bits c.from.result c.item.result
 turned c =
-    let fm : SFits w64 c.from.result = search rules in
-    let fx : SFits w64 c.item.result = search rules in
-    coded _ _ _ _ _ _ _ _ _ c.args.self.now.weighable c.loop-index-test.true fm fx (c.from.ensures ∙ ap (λ (n : ℕ). pos n) c.word_at-weight.ensures) c.item.ensures c.loop-index.invariant
+    coded _ _ _ _ _ _ _ _ _ c.args.self.now.weighable c.loop-index-test.true (c.from.ensures ∙ ap (λ (n : ℕ). pos n) c.word_at-weight.ensures) c.item.ensures c.loop-index.invariant
 
 pub overflow_mul-sum : goal.overflow_mul-sum
 overflow_mul-sum c = (turned c).step.product
