@@ -1,14 +1,17 @@
 -- The row test, against what making a row answers; and the test over a list of facts, one by one.
-use Rattle.std.proofs.Common.{◌≡◌, ℕ, ◌+◌, ◌<◌, ◌≤◌, not, List, length, get_or, drop, Ok, Err, sym, ap, ◌∙◌}
+use Rattle.std.proofs.Common.{◌≡◌, ℕ, ◌+◌, ◌<◌, ◌≤◌, not, List, length, get_or, drop, Some, None, Ok, Err, Option, Result, sym, ap, ◌∙◌, subst}
+use Rattle.std.specs.Result.{MatchResult, IsErrAnd}
 use Rattle.std.proofs.lemmas.List.{at_drop_more, at_drop_all}
 use Rattle.rows.specs.declared.fault.Fault.{Fault}
+use Rattle.rows.specs.declared.fault.FaultKind.{FaultKind}
 use Rattle.rows.specs.declared.fault.FaultKind.TheVariants.{RowNumberTooLarge}
 use Rattle.rows.specs.declared.limits.Limit.TheVariants.{RowNumber}
 use Rattle.rows.specs.declared.numbers.Numbers.{Numbers}
+use Rattle.rows.specs.declared.numbers.TooLarge.{TooLarge}
 use Rattle.rows.specs.declared.row.Row.{Row}
 use Rattle.rows.specs.Faults.{Said, fault_of, ◌and_then◌, unless_found}
 use Rattle.rows.specs.Limits.{items, magnitude_of}
-use Rattle.rows.specs.Made.{RowFrom, FirstOver}
+use Rattle.rows.specs.Made.{RowFrom, FirstOver, unless_beyond}
 use Rattle.rows.specs.Shapes.{Within, beyond, first_beyond}
 use Rattle.rows.proofs.First.{none_first, some_first}
 use Rattle.methods.specs.Openings.{row_says, rows_say}
@@ -28,6 +31,16 @@ row_from_ok numbers row h = sym (row_ok numbers h.1)
 
 pub row_from_err : (numbers : Numbers) (f : Fault) → RowFrom numbers (Err f) → Err f ≡ row_says numbers
 row_from_err numbers f h = ap (λ (x : Fault). Err x) h.0 ∙ sym (row_err numbers f.item h.1)
+
+-- a refusal that becomes a fault of that item
+module _ (kind : FaultKind) where
+  found_fault : (found : Option ℕ) (said : Said) → MatchResult (unless_beyond found) (λ u. said ≡ Ok u) (λ e. IsErrAnd said (λ f. f ≡ fault_of kind 0 0 e.item)) → said ≡ unless_found kind found
+  found_fault None said h = h
+  found_fault (Some i) (Ok u) h = absurd h
+  found_fault (Some i) (Err f) h = ap (λ (x : Fault). Err x) h
+
+  pub refusal : (found : Option ℕ) (held : Result (Unit {0}) TooLarge) (said : Said) → held ≡ unless_beyond found → MatchResult held (λ u. said ≡ Ok u) (λ e. IsErrAnd said (λ f. f ≡ fault_of kind 0 0 e.item)) → said ≡ unless_found kind found
+  refusal found held said e h = found_fault found said (subst (λ r. MatchResult r (λ u. said ≡ Ok u) (λ e. IsErrAnd said (λ f. f ≡ fault_of kind 0 0 e.item))) e h)
 
 -- a loop over the facts: what is left says what the whole says
 module _ (facts : List Numbers) (i : ℕ) (inv : rows_say (drop i facts) ≡ rows_say facts) where

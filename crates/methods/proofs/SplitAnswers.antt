@@ -1,21 +1,25 @@
 -- The row of a split, and its own part: what each way through its code answers.
-use Rattle.std.proofs.Common.{◌≡◌, ℕ, ◌+◌, ◌<◌, ◌≤◌, not, ◌&&◌, ltb, List, [], ◌∷◌, ◌++◌, length, take, drop, Ok, Err, sym, ap, ◌∙◌, subst, arith}
+use Rattle.std.proofs.Common.{◌≡◌, ℕ, ◌+◌, ◌<◌, ◌≤◌, not, ◌&&◌, ltb, List, [], ◌∷◌, ◌++◌, length, take, drop, Ok, Err, Result, sym, ap, ◌∙◌, subst}
+use Rattle.std.specs.Result.{MatchResult, IsErrAnd}
 use Rattle.std.proofs.lemmas.List.{drop-take}
 use Rattle.std.proofs.lemmas.Bool.{le-leb, lt-leb}
 use Rattle.rows.specs.declared.fault.Fault.{Fault}
 use Rattle.rows.specs.declared.fault.FaultKind.TheVariants.{CertificateLength, LayerRowTooLarge, NoRoomForFact}
 use Rattle.rows.specs.declared.limits.Limit.TheVariants.{WrittenNumber}
 use Rattle.rows.specs.declared.numbers.Numbers.{Numbers}
+use Rattle.rows.specs.declared.numbers.TooLarge.{TooLarge}
+use Rattle.rows.specs.declared.written.WrittenRow.{WrittenRow}
 use Rattle.rows.specs.Faults.{Said, fault_of, ◌and_then◌, check, moved}
 use Rattle.rows.specs.Limits.{items, magnitude_of}
 use Rattle.rows.specs.Made.{FirstOver}
+use Rattle.rows.specs.WrittenMade.{WrittenFrom}
 use Rattle.rows.specs.Shapes.{Within, beyond, first_beyond, opposite_of}
 use Rattle.rows.proofs.Chains.{stops, goes, checked, failed}
 use Rattle.rows.proofs.First.{none_first, some_first}
 use Rattle.methods.specs.Layers.{adding}
 use Rattle.methods.specs.Openings.{most_facts, opening_asked}
 use Rattle.methods.specs.Questions.{question, Meaning}
-use Rattle.methods.specs.SplitsAsk.{halves}
+use Rattle.methods.specs.SplitsAsk.{SplitMade, halves}
 use Rattle.methods.specs.Splits.{number_from, first_from, first_length, second_from, first_part, second_part, split_row, unless_written, split_tests, split_own}
 use Rattle.methods.proofs.Asked.{opening_passed}
 use Rattle.methods.proofs.LayerAnswers.{room_count}
@@ -37,6 +41,13 @@ module _ (certificate : List ℕ) where
   row_too_large numbers item l e h =
       let v = subst (λ (n : Numbers). FirstOver (magnitude_of WrittenNumber) n item) e h in
       goes _ _ _ (checked _ _ (le-leb _ _ l)) (sym (ap unless_written (some_first (beyond (magnitude_of WrittenNumber) (split_row certificate)) items item v.0 v.1 v.2)))
+
+  -- the row that is made of the numbers, or the fault of the first that is too large
+  pub row_made : (numbers : Numbers) (made : Result WrittenRow TooLarge) (said : Result WrittenRow Fault) → second_from certificate ≤ length certificate → numbers ≡ split_row certificate → WrittenFrom numbers made →
+      MatchResult made (λ row. said ≡ Ok row) (λ e. IsErrAnd said (λ f. f ≡ fault_of LayerRowTooLarge (number_from e.item) 0 e.item)) → SplitMade certificate said
+  row_made numbers (Ok row) said l e w h = subst (SplitMade certificate) (sym h) (row_written numbers l e w.1, w.0 ∙ e)
+  row_made numbers (Err x) (Ok row) l e w h = absurd h
+  row_made numbers (Err x) (Err f) l e w h = ap (λ (y : Fault). Err y) h ∙ row_too_large numbers x.item l e w
 
 module _ (below : Meaning) (count : ℕ) (sheet : List Numbers) (goal : Numbers) (certificate : List ℕ) (opened : Ok tt ≡ opening_asked count sheet goal) where
   within : count ≤ length sheet

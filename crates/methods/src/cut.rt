@@ -96,10 +96,10 @@ fn cut_row(facts: &[Numbers], certificate: &[u8]) -> Result<Numbers, Fault>
     let divided = DividedFacts { weighted, divisor };
     divided.columns_test()?;
     let row = divided.row();
-    match row.first_beyond(Limit::RowNumber) {
-        None => Ok(row),
-        Some(item) => Err(Fault::with_item(FaultKind::LayerRowTooLarge, item)),
-    }
+    row.held_to(Limit::RowNumber).map_err(|too_large| {
+        Fault::with_item(FaultKind::LayerRowTooLarge, too_large.item)
+    })?;
+    Ok(row)
 }
 
 impl<M: ProofMethod> Cut<M> {

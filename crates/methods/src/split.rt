@@ -12,7 +12,7 @@ use crate::method::ProofMethod;
 use crate::opening::opening;
 use rows::bytes::{number_at, word_at};
 use rows::limits::COLUMNS;
-use rows::{Answer, Fault, FaultKind, Numbers, WrittenRow};
+use rows::{Answer, Fault, FaultKind, Numbers, TooLarge, WrittenRow};
 use std::array::from_fn;
 
 // The certificate's first byte is 0 and the rest goes to the method below; or it is 1, and nine four-byte numbers of a
@@ -47,18 +47,12 @@ fn split_row(certificate: &[u8]) -> Result<WrittenRow, Fault>
     if certificate.len() < FIRST_FROM + length {
         return Err(Fault::of(FaultKind::CertificateLength));
     }
-    match WrittenRow::new(split_numbers(certificate)) {
-        Ok(row) => Ok(row),
-        Err(item) => {
-            let place = NUMBERS_FROM + 4 * usize::from(item);
-            Err(Fault {
-                kind: FaultKind::LayerRowTooLarge,
-                place,
-                depth: 0,
-                item,
-            })
-        }
-    }
+    WrittenRow::new(split_numbers(certificate)).map_err(|TooLarge { item }| Fault {
+        kind: FaultKind::LayerRowTooLarge,
+        place: NUMBERS_FROM + 4 * usize::from(item),
+        depth: 0,
+        item,
+    })
 }
 
 impl<M: ProofMethod> Split<M> {

@@ -4,15 +4,15 @@ ghost use Rattle.rows.specs.Zeros.{zero_numbers};
 ghost use Rattle.rows.specs.declared.numbers.Numbers.{Numbers as Plain};
 ghost use Rattle.std.specs.Prelude.{◌≡◌};
 
-use rows::{Expression, Numbers, WrittenRow};
+use rows::{Expression, Numbers, TooLarge, WrittenRow};
 
 // What is made of written numbers: a row or an expression.
 pub trait Written: Copy {
     // Its numbers, the constant of an expression as a bound.
     ghost plain: { Self → Plain };
 
-    // The value with these numbers, or the item of the first that is too large to be written.
-    fn written(numbers: Numbers) -> Result<Self, u8>
+    // The value with these numbers, or the first of them that is too large to be written.
+    fn written(numbers: Numbers) -> Result<Self, TooLarge>
         ensures { WrittenAs plain numbers result };
 
     // The value whose numbers are all zero.
@@ -23,7 +23,7 @@ pub trait Written: Copy {
 impl Written for WrittenRow {
     ghost plain = { λ row. row.numbers };
 
-    fn written(numbers: Numbers) -> Result<WrittenRow, u8> {
+    fn written(numbers: Numbers) -> Result<WrittenRow, TooLarge> {
         WrittenRow::new(numbers)
     }
 
@@ -35,7 +35,7 @@ impl Written for WrittenRow {
 impl Written for Expression {
     ghost plain = { λ e. record { coefficients = e.coefficients; bound = e.constant } };
 
-    fn written(numbers: Numbers) -> Result<Expression, u8> {
+    fn written(numbers: Numbers) -> Result<Expression, TooLarge> {
         Expression::new(numbers.coefficients, numbers.bound)
     }
 

@@ -1,10 +1,11 @@
 -- How large products and sums of products become, over any number of columns and any limits, and that they fit 64 bits.
-use Rattle.std.proofs.Common.{◌≡◌, ℕ, zero, suc, ◌+◌, ◌*◌, ◌^◌, ◌<◌, ◌≤◌, true, List, get_or, ℤ, pos, negsuc, ◌+ℤ◌, ◌*ℤ◌, neg_ℤ, ◌≤ℤ◌, sym, ap, ◌∙◌, subst, add-one, arith, w64, SFits, to_z, of_z}
+use Rattle.std.proofs.Common.{◌≡◌, ℕ, suc, ◌+◌, ◌*◌, ◌^◌, ◌<◌, ◌≤◌, true, List, get_or, ℤ, pos, negsuc, ◌+ℤ◌, ◌*ℤ◌, neg_ℤ, ◌≤ℤ◌, sym, ap, ◌∙◌, subst, add-one, arith, w64, SFits, to_z, of_z}
 use lib.Signed.{le_z}
 use Rattle.std.proofs.lemmas.Nat.{mul-le}
 use Rattle.std.proofs.lemmas.Int.{ints, to_z-of_z}
 use Rattle.std.proofs.lemmas.Bool.{and_parts}
 use Rattle.rows.specs.Limits.{within}
+use Rattle.rows.specs.Points.{WithinFirst}
 use Rattle.rows.specs.Shapes.{dot_to}
 
 -- z lies within ±most
@@ -66,32 +67,27 @@ pub record Summed (most : ℕ) (cs vs : List ℤ) (k : ℕ) (sum : ℤ) : Type 0
   pub so_far : sum ≡ dot_to k cs vs
   pub small : Bounded (k * most) sum
 
--- one turn of it, over any number n of columns and any limits a and b
-pub record DotTurn (most bits : ℕ) (cs vs : List ℤ) (k : ℕ) : Type 0 where
-  pub step : Accumulated bits (get_or cs k (pos 0)) (get_or vs k (pos 0))
-  pub again : Summed most cs vs (k + 1) (to_z w64 (of_z w64 (to_z w64 bits +ℤ to_z w64 (of_z w64 (to_z w64 (of_z w64 (get_or cs k (pos 0))) *ℤ to_z w64 (of_z w64 (get_or vs k (pos 0))))))))
+pub summed_at : (most : ℕ) {k n : ℕ} (cs vs : List ℤ) (sum : ℤ) → k ≡ n → Summed most cs vs k sum → Summed most cs vs n sum
+summed_at most cs vs sum e s = subst (λ i. Summed most cs vs i sum) e s
 
-pub dot_turn : (n a b bits : ℕ) (cs vs : List ℤ) (k : ℕ) → n * (a * b) < 2 ^ 63 →
-    ((i : ℕ) → i < n → within a (get_or cs i (pos 0)) ≡ true) → ((i : ℕ) → i < n → within b (get_or vs i (pos 0)) ≡ true) →
-    k < n → SFits w64 (get_or cs k (pos 0)) → SFits w64 (get_or vs k (pos 0)) → Summed (a * b) cs vs k (to_z w64 bits) → DotTurn (a * b) bits cs vs k
-dot_turn n a b bits cs vs k h ca vb l fx fy s =
-    let p = product_bounded a b (get_or cs k (pos 0)) (get_or vs k (pos 0)) (bounded a _ (ca k l)) (bounded b _ (vb k l)) in
+-- one turn of it, at the next pair x and y, over any number n of columns and any limits a and b
+pub record DotTurn (most bits : ℕ) (cs vs : List ℤ) (k : ℕ) (x y : ℤ) : Type 0 where
+  pub step : Accumulated bits x y
+  pub again : Summed most cs vs k (to_z w64 (of_z w64 (to_z w64 bits +ℤ to_z w64 (of_z w64 (to_z w64 (of_z w64 x) *ℤ to_z w64 (of_z w64 y))))))
+
+pub dot_turn : (n a b bits : ℕ) (cs vs : List ℤ) (k : ℕ) (x y : ℤ) → n * (a * b) < 2 ^ 63 → WithinFirst n a cs → WithinFirst n b vs → k < n → x ≡ get_or cs k (pos 0) → y ≡ get_or vs k (pos 0) →
+    SFits w64 x → SFits w64 y → Summed (a * b) cs vs k (to_z w64 bits) → DotTurn (a * b) bits cs vs (k + 1) x y
+dot_turn n a b bits cs vs k x y h ca vb l ex ey fx fy s =
+    let p = product_bounded a b x y (bounded a _ (ap (within a) ex ∙ ca k l)) (bounded b _ (ap (within b) ey ∙ vb k l)) in
     let t = turn k n (a * b) bits _ _ l h fx fy p s.small in
+    let d : x *ℤ y ≡ get_or cs k (pos 0) *ℤ get_or vs k (pos 0) = rw (ex, ey) in
     record {
       step = t;
       again = record {
-        so_far = t.is ∙ ap (λ (z : ℤ). z +ℤ get_or cs k (pos 0) *ℤ get_or vs k (pos 0)) s.so_far ∙ rw add-one;
+        so_far = t.is ∙ ap (λ (z : ℤ). z +ℤ x *ℤ y) s.so_far ∙ ap (λ (z : ℤ). dot_to k cs vs +ℤ z) d ∙ rw add-one;
         small = subst (Bounded ((k + 1) * (a * b))) (sym t.is) (sum_bounded k (a * b) _ _ s.small p);
       };
     }
-
--- the whole sum
-pub dot_bounded : (n a b : ℕ) (cs vs : List ℤ) → ((i : ℕ) → i < n → within a (get_or cs i (pos 0)) ≡ true) → ((i : ℕ) → i < n → within b (get_or vs i (pos 0)) ≡ true) → Bounded (n * (a * b)) (dot_to n cs vs)
-dot_bounded zero a b cs vs ca vb = record { low = omega (arith, ints); high = omega (arith, ints) }
-dot_bounded (suc k) a b cs vs ca vb =
-    let h = dot_bounded k a b cs vs (λ i l. ca i (omega arith)) (λ i l. vb i (omega arith)) in
-    let p = product_bounded a b (get_or cs k (pos 0)) (get_or vs k (pos 0)) (bounded a _ (ca k (omega arith))) (bounded b _ (vb k (omega arith))) in
-    rw (sym (add-one k)) (sum_bounded k (a * b) _ _ h p)
 
 -- a bounded number as it is passed to a function, to its bits and back
 pub passed_bounded : (most more : ℕ) (z : ℤ) → most ≤ more → more < 2 ^ 63 → Bounded most z → (neg_ℤ (pos more) ≤ℤ to_z w64 (of_z w64 z)) × (to_z w64 (of_z w64 z) ≤ℤ pos more)

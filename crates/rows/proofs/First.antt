@@ -1,5 +1,6 @@
 -- The relation "is the first" has one answer, the one that `first_below` computes.
 use Rattle.std.proofs.Common.{◌≡◌, ℕ, zero, suc, ◌<◌, ◌≤◌, Bool, true, false, cond, Some, None, Option, sym, refl, ap, ◌∙◌, inl, inr, arith}
+use Rattle.std.specs.Option.{MatchOption}
 use Rattle.std.proofs.lemmas.Bool.{cases_eq}
 use Rattle.rows.specs.Firsts.{or_else, first_below, NoneBelow, IsFirst}
 
@@ -52,3 +53,8 @@ first_some test (suc n) i e = from (first_below test n) (test n) (λ k h. first_
     from (Some k) b h x = let s : k ≡ i = cc in let l = h k refl in omega arith
     from None true h x = let s : n ≡ i = cc in omega arith
     from None false h x = let z : ◌≡◌ {A = ℕ} 0 1 = cc in absurd (omega arith)
+
+-- what a search of the numbers from 0 on finds
+pub found_first : (test : ℕ → Bool) (n : ℕ) (r : Option ℕ) → MatchOption r ((k : ℕ) → 0 ≤ k → k < n → test k ≡ false) (λ i. (0 ≤ i) × (i < n) × (test i ≡ true) × ((k : ℕ) → 0 ≤ k → k < i → test k ≡ false)) → IsFirst test n r
+found_first test n None h = λ k l. h k (omega arith) l
+found_first test n (Some i) h = (h.1, h.2, λ k l. h.3 k (omega arith) l)

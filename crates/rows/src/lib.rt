@@ -6,14 +6,14 @@ pub mod expression;
 pub mod fault;
 pub mod limits;
 pub mod numbers;
-pub mod point;
 pub mod row;
+pub mod values;
 pub mod written;
 
 pub use expression::Expression;
 pub use fault::{Answer, Fault, FaultKind, moved};
 pub use limits::Limit;
-pub use numbers::Numbers;
-pub use point::Point;
+pub use numbers::{Numbers, TooLarge};
 pub use row::Row;
+pub use values::{Point, Values};
 pub use written::WrittenRow;

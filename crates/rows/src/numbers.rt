@@ -2,6 +2,7 @@
 ghost use Rattle.std.specs.Prelude.{◌≡◌, ℕ};
 ghost use Rattle.rows.specs.Firsts.{IsFirst};
 ghost use Rattle.rows.specs.Limits.{magnitude_of, items};
+ghost use Rattle.rows.specs.Made.{HeldTo, unless_beyond};
 ghost use Rattle.rows.specs.Shapes.{item_of, beyond, first_beyond};
 
 use crate::limits::{COLUMNS, ITEMS, Limit};
@@ -13,16 +14,18 @@ pub struct Numbers {
     pub bound: i64,
 }
 
+// The refusal of numbers: the first, by its item, that passes a limit.
+#[derive(Clone, Copy, PartialEq, Eq, Debug)]
+pub struct TooLarge {
+    pub item: u8,
+}
+
 impl Numbers {
     // The number of an item: a column's coefficient, else the bound.
     pub fn item(&self, item: usize) -> i64
         ensures { result ≡ item_of self.now item }
     {
-        if item < COLUMNS {
-            self.coefficients[item]
-        } else {
-            self.bound
-        }
+        self.coefficients.get(item).copied().unwrap_or(self.bound)
     }
 
     // The lowest item whose number passes the limit.
@@ -30,11 +33,17 @@ impl Numbers {
         ensures value { result ≡ first_beyond (magnitude_of limit) self.now }
         ensures first { IsFirst (beyond (magnitude_of limit) self.now) items result }
     {
-        for item in 0..ITEMS {
-            if !limit.admits(self.item(item)) {
-                return Some(item as u8);
-            }
+        (0..ITEMS as u8).find(|item| !limit.admits(self.item(usize::from(*item))))
+    }
+
+    // Nothing where every number lies within the limit, else the first that does not.
+    pub fn held_to(&self, limit: Limit) -> Result<(), TooLarge>
+        ensures value { result ≡ unless_beyond (first_beyond (magnitude_of limit) self.now) }
+        ensures first { HeldTo (magnitude_of limit) self.now result }
+    {
+        match self.first_beyond(limit) {
+            None => Ok(()),
+            Some(item) => Err(TooLarge { item }),
         }
-        None
     }
 }

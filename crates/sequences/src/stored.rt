@@ -46,14 +46,11 @@ pub(crate) fn row_at<T: Written>(
     requires { rest_from piece.offset + at + stride shape < 2 ^ 64 }
     ensures { row_from T.Written.plain kind shape piece.entry at result }
 {
-    match T::written(numbers_at(piece.rest, shape, at)) {
-        Ok(row) => Ok(row),
-        Err(item) => {
-            let slot = shape.slot(usize::from(item)).unwrap_or(0);
-            let place = piece.offset + LENGTH_BYTES + at + 4 * usize::from(slot);
-            Err(Fault::at(kind, place))
-        }
-    }
+    T::written(numbers_at(piece.rest, shape, at)).map_err(|too_large| {
+        let slot = shape.slot(usize::from(too_large.item)).unwrap_or(0);
+        let place = piece.offset + LENGTH_BYTES + at + 4 * usize::from(slot);
+        Fault::at(kind, place)
+    })
 }
 
 // Rows or expressions one behind another.

@@ -1,14 +1,14 @@
 // The limits of rows and of written rows, in each item.
 use crate::helpers::*;
 use rows::limits::{ITEMS, ROW_LIMIT, WRITTEN_LIMIT};
-use rows::{Answer, FaultKind, Numbers, Row, WrittenRow};
+use rows::{Answer, FaultKind, Numbers, Row, TooLarge, WrittenRow};
 
 fn row_made(numbers: Numbers) -> Answer {
     let _row = Row::new(numbers)?;
     Ok(())
 }
 
-fn written_made(numbers: Numbers) -> Result<(), u8> {
+fn written_made(numbers: Numbers) -> Result<(), TooLarge> {
     let _row = WrittenRow::new(numbers)?;
     Ok(())
 }
@@ -47,7 +47,10 @@ fn written_rows_at_their_limit(rt: HostRuntime) {
 fn written_rows_beyond_their_limit(rt: HostRuntime) {
     for item in 0..ITEMS {
         for number in [WRITTEN_LIMIT + 1, -WRITTEN_LIMIT - 1, i64::MAX, i64::MIN] {
-            assert_eq!(rt; written_made(only(item, number)), Err(item as u8));
+            assert_eq!(rt;
+                written_made(only(item, number)),
+                Err(TooLarge { item: item as u8 })
+            );
         }
     }
 }

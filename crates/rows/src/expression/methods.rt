@@ -6,26 +6,24 @@ ghost use Rattle.std.specs.Prelude.{◌≡◌, pos, ◌+ℤ◌, neg_ℤ, ◌≤�
 
 use crate::expression::Expression;
 use crate::limits::{COLUMNS, Limit};
-use crate::numbers::Numbers;
-use crate::point::Point;
+use crate::numbers::{Numbers, TooLarge};
+use crate::values::Point;
 
 impl Expression {
-    // The expression of these numbers, or the item of the first that is too large to be written; the constant's item
-    // is that of a bound.
-    pub fn new(coefficients: [i64; COLUMNS], constant: i64) -> Result<Expression, u8>
+    // The expression of these numbers, or the first of them that is too large to be written; the constant's item is
+    // that of a bound.
+    pub fn new(coefficients: [i64; COLUMNS], constant: i64) -> Result<Expression, TooLarge>
         ensures { ExpressionFrom coefficients constant result }
     {
         let numbers = Numbers {
             coefficients,
             bound: constant,
         };
-        match numbers.first_beyond(Limit::WrittenNumber) {
-            None => Ok(Expression {
-                coefficients,
-                constant,
-            }),
-            Some(item) => Err(item),
-        }
+        numbers.held_to(Limit::WrittenNumber)?;
+        Ok(Expression {
+            coefficients,
+            constant,
+        })
     }
 
     // The coefficients.

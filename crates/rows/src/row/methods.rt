@@ -15,10 +15,10 @@ impl Row {
     pub fn new(numbers: Numbers) -> Result<Row, Fault>
         ensures { RowFrom numbers result }
     {
-        match numbers.first_beyond(Limit::RowNumber) {
-            None => Ok(Row { numbers }),
-            Some(item) => Err(Fault::with_item(FaultKind::RowNumberTooLarge, item)),
-        }
+        numbers.held_to(Limit::RowNumber).map_err(|too_large| {
+            Fault::with_item(FaultKind::RowNumberTooLarge, too_large.item)
+        })?;
+        Ok(Row { numbers })
     }
 
     // The row of numbers that are known to fit.

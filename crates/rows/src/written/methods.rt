@@ -7,20 +7,18 @@ ghost use Rattle.rows.specs.declared.limits.Limit.TheVariants.{WrittenNumber};
 ghost use Rattle.std.specs.Prelude.{◌≡◌, map, pos, ◌-ℤ◌, neg_ℤ, ◌≤ℤ◌, Decides};
 
 use crate::limits::{COLUMNS, Limit};
-use crate::numbers::Numbers;
-use crate::point::Point;
+use crate::numbers::{Numbers, TooLarge};
 use crate::row::Row;
+use crate::values::Point;
 use crate::written::WrittenRow;
 
 impl WrittenRow {
-    // The row of these numbers, or the item of the first that is too large to be written.
-    pub fn new(numbers: Numbers) -> Result<WrittenRow, u8>
+    // The row of these numbers, or the first of them that is too large to be written.
+    pub fn new(numbers: Numbers) -> Result<WrittenRow, TooLarge>
         ensures { WrittenFrom numbers result }
     {
-        match numbers.first_beyond(Limit::WrittenNumber) {
-            None => Ok(WrittenRow { numbers }),
-            Some(item) => Err(item),
-        }
+        numbers.held_to(Limit::WrittenNumber)?;
+        Ok(WrittenRow { numbers })
     }
 
     // The row's numbers.
@@ -64,9 +62,5 @@ fn negated(numbers: [i64; COLUMNS]) -> [i64; COLUMNS]
     requires { ValuesWithin (magnitude_of WrittenNumber) numbers }
     ensures { result ≡ map neg_ℤ numbers }
 {
-    let mut turned = numbers;
-    for column in 0..COLUMNS {
-        turned[column] = -numbers[column];
-    }
-    turned
+    numbers.map(|number| -number)
 }
