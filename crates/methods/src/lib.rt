@@ -16,6 +16,7 @@ pub mod split;
 mod weights;
 
 pub use asking::ask;
+pub use checking::check;
 pub use claim::Claim;
 pub use cut::Cut;
 pub use look_up::LookUp;
