@@ -1,6 +1,5 @@
 -- A question to the layer that lowers the goal's bound: what each way through its code answers, and when it is yes.
-use Rattle.std.proofs.Common.{◌≡◌, ℕ, ◌-◌, ◌<◌, ◌≤◌, cond, eqb, ltb, List, length, get_or, take, drop, Ok, Err, Result, sym, refl, ap, ◌∙◌, inl, inr}
-use Rattle.std.proofs.lemmas.List.{take_rest}
+use Rattle.std.proofs.Common.{◌≡◌, ℕ, ◌<◌, ◌≤◌, cond, eqb, ltb, List, length, get_or, take, drop, Ok, Err, Result, sym, refl, ap, ◌∙◌, inl, inr}
 use Rattle.std.proofs.lemmas.Bool.{le-leb, lt-ltb, and_from, cond-true}
 use Rattle.rows.specs.declared.fault.Fault.{Fault}
 use Rattle.rows.specs.declared.fault.FaultKind.TheVariants.{LayerByte}
@@ -12,10 +11,10 @@ use Rattle.methods.specs.declared.layer.FirstByte.TheVariants.{HandDown, Own}
 use Rattle.methods.specs.Layers.{first_byte_of, by_first, from}
 use Rattle.methods.specs.OpeningLaws.{yes_row}
 use Rattle.methods.specs.Openings.{row_says}
-use Rattle.methods.specs.Questions.{Question, question, Meaning, asked}
-use Rattle.methods.proofs.Asked.{asked_within}
+use Rattle.methods.specs.Questions.{Question, question, Meaning, asked, YesExactly}
+use Rattle.methods.proofs.Asked.{asked_within, exactly}
+use Rattle.extension.specs.WeakenLaws.{weaken_only}
 use Rattle.extension.specs.Weakens.{lower_from, lowered, slack_tests, weaken_own, weaken_says, WeakenYes}
-use Rattle.extension.specs.WeakensAsk.{own_asked}
 use Rattle.extension.proofs.OrderTests.{le_test}
 
 module _ (below : Meaning) (count : ℕ) (sheet : List Numbers) (goal : Numbers) (certificate : List ℕ) (l : count ≤ length sheet) where
@@ -41,18 +40,12 @@ module _ (below : Meaning) (count : ℕ) (sheet : List Numbers) (goal : Numbers)
   pub weaken_byte : (f : Fault) → Ok tt ≡ row_says goal → Err f ≡ first_byte_of certificate → Err f ≡ asked (weaken_says below) count sheet goal certificate
   weaken_byte f e b = then (Err f) e (Err f) b refl
 
-  pub weaken_handed : (r : Said) → Ok tt ≡ row_says goal → Ok HandDown ≡ first_byte_of certificate →
-      r ≡ moved 1 (below (question (take count sheet) goal (take (length certificate - 1) (drop 1 certificate)) (length sheet))) → r ≡ asked (weaken_says below) count sheet goal certificate
-  weaken_handed r e b h =
-      then r e (Ok HandDown) b (h ∙ ap (λ (part : List ℕ). moved 1 (below (question (take count sheet) goal part (length sheet)))) (take_rest certificate 1))
+  pub weaken_handed : (r : Said) → Ok tt ≡ row_says goal → Ok HandDown ≡ first_byte_of certificate → r ≡ moved 1 (asked below count sheet goal (drop 1 certificate)) → r ≡ asked (weaken_says below) count sheet goal certificate
+  weaken_handed r e b h = then r e (Ok HandDown) b (h ∙ ap (moved 1) (asked_within count sheet goal (drop 1 certificate) below l))
 
   pub weaken_own_lem : (r : Said) (goal' : Numbers) → Ok tt ≡ row_says goal → Ok Own ≡ first_byte_of certificate → goal' ≡ goal →
-      r ≡ own_asked below (question (take count sheet) goal' certificate (length sheet)) → r ≡ asked (weaken_says below) count sheet goal certificate
-  unfolding weaken_own
-  weaken_own_lem r goal' e b d h =
-      then r e (Ok Own) b
-      (h ∙ ap (λ (n : Numbers). own_asked below (question (take count sheet) n certificate (length sheet))) d
-      ∙ ap (λ (part : List ℕ). slack_tests certificate and_then moved lower_from (below (question (take count sheet) (lowered goal certificate) part (length sheet)))) (take_rest certificate lower_from))
+      r ≡ weaken_own below (question (take count sheet) goal' certificate (length sheet)) → r ≡ asked (weaken_says below) count sheet goal certificate
+  weaken_own_lem r goal' e b d h = then r e (Ok Own) b (h ∙ ap (λ (n : Numbers). weaken_own below (question (take count sheet) n certificate (length sheet))) d)
 
 first_is : (certificate : List ℕ) (b : ℕ) → 0 < length certificate → get_or certificate 0 0 ≡ b →
     first_byte_of certificate ≡ cond (eqb b 0) (Ok HandDown) (cond (eqb b 1) (Ok Own) (Err (fault_of LayerByte 0 0 0)))
@@ -68,3 +61,6 @@ weaken_if below q y =
           ∙ sym (goes _ _ _ (goes _ _ _ (checked _ _ (le-leb _ _ o.long)) (checked _ _ (and_from _ _ (le_test _ _ o.slack_least) (le_test _ _ o.slack_most))))
           (sym (ap (moved lower_from) o.below_yes))))
     ]))
+
+pub weaken_exactly : (below : Meaning) (count : ℕ) (sheet : List Numbers) (goal : Numbers) (certificate : List ℕ) (said : Said) → said ≡ asked (weaken_says below) count sheet goal certificate → YesExactly said (WeakenYes below) count sheet goal certificate
+weaken_exactly below count sheet goal certificate said e = exactly count sheet goal certificate (weaken_says below) (WeakenYes below) said e (weaken_only below) (weaken_if below)

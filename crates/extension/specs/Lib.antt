@@ -3,5 +3,4 @@ pub mod ZeroGoals
 pub mod ZeroGoalLaws
 pub mod Nevers
 pub mod Weakens
-pub mod WeakensAsk
 pub mod WeakenLaws

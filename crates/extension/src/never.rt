@@ -1,9 +1,9 @@
 // A method that never says yes. The laws ask for no yes, so it is a method like any other.
-ghost use Rattle.std.specs.Prelude.{◌≡◌, ℕ, length, take, Ok, ◌≢◌};
+ghost use Rattle.std.specs.Prelude.{◌≡◌, ℕ, take, Ok, ◌≢◌};
 ghost use Rattle.extension.specs.Nevers.{never_says, never_lawful};
 ghost use Rattle.methods.specs.Questions.{asked};
 
-use methods::ProofMethod;
+use methods::{Claim, ProofMethod};
 use rows::limits::BOUND_ITEM;
 use rows::{Answer, Fault, FaultKind, Numbers};
 
@@ -16,21 +16,13 @@ impl ProofMethod for NeverYes {
 
     ghost lawful = { λ _. never_lawful };
 
-    fn question(
-        &self,
-        sheet: &mut [Numbers],
-        count: usize,
-        goal: &Numbers,
-        certificate: &[u8],
-    ) -> Answer
-        ensures answer { result ≡ asked never_says count sheet.old goal.now certificate.now }
-        ensures kept { take count sheet.new ≡ take count sheet.old }
+    fn question(&self, sheet: &mut [Numbers], claim: Claim<'_>) -> Answer
+        ensures answer { result ≡ asked never_says claim.entry.count sheet.old claim.entry.goal.now claim.entry.certificate.now }
+        ensures kept { take claim.entry.count sheet.new ≡ take claim.entry.count sheet.old }
         ensures same { sheet.new ≡ sheet.old }
         ensures refused { result ≢ Ok tt }
     {
-        if count > sheet.len() {
-            return Err(Fault::of(FaultKind::TooManyFacts));
-        }
+        claim.facts(sheet)?;
         Err(Fault::with_item(FaultKind::BoundNotShown, BOUND_ITEM))
     }
 }

@@ -1,18 +1,16 @@
 // A layer that shows a goal by a stronger one: the same coefficients with a lower bound.
-ghost use Rattle.std.specs.Prelude.{◌≡◌, ℕ, ◌+◌, ◌^◌, ◌<◌, ◌≤◌, length, take, pos, ◌-ℤ◌, neg_ℤ, ◌≤ℤ◌};
+ghost use Rattle.std.specs.Prelude.{◌≡◌, ℕ, ◌≤◌, length, take, pos, ◌-ℤ◌, neg_ℤ, ◌≤ℤ◌};
 ghost use Rattle.extension.specs.WeakenLaws.{weaken_lawful};
-ghost use Rattle.extension.specs.Weakens.{lower_from, slack_says, LoweredFrom, weaken_says, WeakenYes};
-ghost use Rattle.extension.specs.WeakensAsk.{lower_asked, own_asked};
+ghost use Rattle.extension.specs.Weakens.{slack_says, LoweredFrom, weaken_own, weaken_says, WeakenYes};
 ghost use Rattle.methods.specs.Questions.{asked, question as asking, YesExactly};
-ghost use Rattle.rows.specs.Faults.{moved as moved_by};
 ghost use Rattle.rows.specs.Limits.{magnitude_of};
 ghost use Rattle.rows.specs.declared.limits.Limit.TheVariants.{RowNumber, WrittenNumber};
 
-use methods::ProofMethod;
-use methods::layer::FirstByte;
+use methods::layer::{FirstByte, ask_below};
+use methods::{Claim, ProofMethod, check};
 use rows::bytes::number_at;
 use rows::limits::{BOUND_ITEM, WRITTEN_LIMIT};
-use rows::{Answer, Fault, FaultKind, Numbers, Row, moved};
+use rows::{Answer, Fault, FaultKind, Numbers, Row};
 
 // The certificate's first byte is 0 and the rest goes to the method below; or it is 1, and a four-byte number from 0 to
 // 1,000,000, by which the goal's bound is lowered, and the lower certificate follow.
@@ -30,15 +28,13 @@ const LOWER_FROM: usize = 5;
 fn slack_test(slack: i64) -> Answer
     ensures { result ≡ slack_says slack }
 {
-    if slack < 0 || slack > WRITTEN_LIMIT {
-        return Err(Fault {
-            kind: FaultKind::LayerRowTooLarge,
-            place: SLACK_FROM,
-            depth: 0,
-            item: BOUND_ITEM,
-        });
-    }
-    Ok(())
+    let too_large = Fault {
+        kind: FaultKind::LayerRowTooLarge,
+        place: SLACK_FROM,
+        depth: 0,
+        item: BOUND_ITEM,
+    };
+    check(0 <= slack && slack <= WRITTEN_LIMIT, too_large)
 }
 
 // A bound lowered by a number.
@@ -51,65 +47,37 @@ fn lowered_bound(bound: i64, slack: i64) -> i64
 }
 
 // The goal with its bound lowered by the certificate's number, once all tests on the way to it are passed.
+#[tactic(auto, unfolding(crate::specs::Weakens::slack_tests))]
 fn lowered_goal(goal: &Row, certificate: &[u8]) -> Result<Numbers, Fault>
     ensures { LoweredFrom goal.now.numbers certificate.now result }
 {
-    if certificate.len() < LOWER_FROM {
-        return Err(Fault::of(FaultKind::CertificateLength));
-    }
+    check(
+        LOWER_FROM <= certificate.len(),
+        Fault::of(FaultKind::CertificateLength),
+    )?;
     let slack = number_at(certificate, SLACK_FROM);
     slack_test(slack)?;
     let numbers = *goal.numbers();
-    let bound = lowered_bound(numbers.bound, slack);
-    let mut lowered = numbers;
-    lowered.bound = bound;
-    Ok(lowered)
-}
-
-// The answer of the method below to a part of the certificate that begins at an offset.
-fn ask_below<M: ProofMethod>(
-    below: &M,
-    sheet: &mut [Numbers],
-    count: usize,
-    goal: &Numbers,
-    part: &[u8],
-    offset: usize,
-) -> Answer
-    requires within { count ≤ length sheet.old }
-    requires short { length part.now + offset < 2 ^ 64 }
-    ensures answer { result ≡ moved_by offset (M.ProofMethod.meaning below.now (asking (take count sheet.old) goal.now part.now (length sheet.old))) }
-    ensures kept { take count sheet.new ≡ take count sheet.old }
-{
-    let answer = below.question(sheet, count, goal, part);
-    moved(answer, offset)
+    Ok(Numbers {
+        bound: lowered_bound(numbers.bound, slack),
+        ..numbers
+    })
 }
 
 impl<M: ProofMethod> Weaken<M> {
-    // The answer below about a goal, by the lower certificate.
-    fn ask_lower(
-        &self,
-        sheet: &mut [Numbers],
-        count: usize,
-        goal: &Numbers,
-        certificate: &[u8],
-    ) -> Answer
-        requires within { count ≤ length sheet.old }
-        requires long { lower_from ≤ length certificate.now }
-        ensures answer { result ≡ lower_asked (M.ProofMethod.meaning self.now.below) (asking (take count sheet.old) goal.now certificate.now (length sheet.old)) }
-        ensures kept { take count sheet.new ≡ take count sheet.old }
-    {
-        let part = &certificate[LOWER_FROM..];
-        ask_below(&self.below, sheet, count, goal, part, LOWER_FROM)
-    }
-
     // The layer's own part of a question: the method below is asked about the goal with a lower bound.
-    fn own(&self, sheet: &mut [Numbers], count: usize, goal: &Row, certificate: &[u8]) -> Answer
-        requires { count ≤ length sheet.old }
-        ensures answer { result ≡ own_asked (M.ProofMethod.meaning self.now.below) (asking (take count sheet.old) goal.now.numbers certificate.now (length sheet.old)) }
-        ensures kept { take count sheet.new ≡ take count sheet.old }
+    #[tactic(auto, using(methods::proofs::Asked::asked_within), unfolding(crate::specs::Weakens::weaken_own))]
+    fn own(&self, sheet: &mut [Numbers], claim: Claim<'_>, goal: &Row) -> Answer
+        requires { claim.count ≤ length sheet.old }
+        ensures answer { result ≡ weaken_own (M.ProofMethod.meaning self.now.below) (asking (take claim.entry.count sheet.old) goal.now.numbers claim.entry.certificate.now (length sheet.old)) }
+        ensures kept { take claim.entry.count sheet.new ≡ take claim.entry.count sheet.old }
     {
-        let lowered = lowered_goal(goal, certificate)?;
-        self.ask_lower(sheet, count, &lowered, certificate)
+        let lowered = lowered_goal(goal, claim.certificate)?;
+        let lower = Claim {
+            goal: &lowered,
+            ..claim
+        };
+        ask_below(&self.below, sheet, lower, LOWER_FROM)
     }
 }
 
@@ -118,24 +86,16 @@ impl<M: ProofMethod> ProofMethod for Weaken<M> {
 
     ghost lawful = { λ m. weaken_lawful (M.ProofMethod.meaning m.below) (M.ProofMethod.lawful m.below) };
 
-    fn question(
-        &self,
-        sheet: &mut [Numbers],
-        count: usize,
-        goal: &Numbers,
-        certificate: &[u8],
-    ) -> Answer
-        ensures answer { result ≡ asked (weaken_says (M.ProofMethod.meaning self.now.below)) count sheet.old goal.now certificate.now }
-        ensures kept { take count sheet.new ≡ take count sheet.old }
-        ensures exactly { YesExactly result (WeakenYes (M.ProofMethod.meaning self.now.below)) count sheet.old goal.now certificate.now }
+    fn question(&self, sheet: &mut [Numbers], claim: Claim<'_>) -> Answer
+        ensures answer { result ≡ asked (weaken_says (M.ProofMethod.meaning self.now.below)) claim.entry.count sheet.old claim.entry.goal.now claim.entry.certificate.now }
+        ensures kept { take claim.entry.count sheet.new ≡ take claim.entry.count sheet.old }
+        ensures exactly { YesExactly result (WeakenYes (M.ProofMethod.meaning self.now.below)) claim.entry.count sheet.old claim.entry.goal.now claim.entry.certificate.now }
     {
-        if count > sheet.len() {
-            return Err(Fault::of(FaultKind::TooManyFacts));
-        }
-        let row = Row::new(*goal)?;
-        match FirstByte::read(certificate)? {
-            FirstByte::HandDown => ask_below(&self.below, sheet, count, goal, &certificate[1..], 1),
-            FirstByte::Own => self.own(sheet, count, &row, certificate),
+        claim.facts(sheet)?;
+        let goal = Row::new(*claim.goal)?;
+        match FirstByte::read(claim.certificate)? {
+            FirstByte::HandDown => ask_below(&self.below, sheet, claim, 1),
+            FirstByte::Own => self.own(sheet, claim, &goal),
         }
     }
 }

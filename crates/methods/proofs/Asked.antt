@@ -1,18 +1,15 @@
 -- From what a method of ours means to what a question with a sheet and a count answers.
-use Rattle.std.proofs.Common.{◌≡◌, ℕ, ◌-◌, ◌<◌, ◌≤◌, true, leb, List, length, take, Ok, Err, sym, ap, ◌∙◌, subst, inl, inr, arith}
+use Rattle.std.proofs.Common.{◌≡◌, ℕ, ◌-◌, ◌<◌, ◌≤◌, Bool, true, leb, List, length, take, Ok, Err, sym, ap, ◌∙◌, subst, inl, inr, arith}
 use Rattle.std.proofs.lemmas.List.{length-take-le}
-use Rattle.std.proofs.lemmas.Bool.{le-leb, lt-leb, cases_lt, cond-true, cond-false}
+use Rattle.std.proofs.lemmas.Bool.{le-leb, leb-true, lt-leb, cases_lt, cond-true, cond-false}
 use Rattle.rows.specs.declared.fault.Fault.{Fault}
 use Rattle.rows.specs.declared.fault.FaultKind.TheVariants.{TooManyFacts}
 use Rattle.rows.specs.declared.numbers.Numbers.{Numbers}
-use Rattle.rows.specs.Faults.{Said, fault_of}
-use Rattle.rows.proofs.Chains.{stops, goes, checked, never}
-use Rattle.methods.specs.Openings.{opening, opened}
+use Rattle.rows.specs.Faults.{Said, fault_of, ◌and_then◌, check}
+use Rattle.rows.proofs.Chains.{both, check_true, checked, stops, goes, failed, never}
+use Rattle.methods.specs.OpeningLaws.{opening_yes}
+use Rattle.methods.specs.Openings.{opening, opening_asked, opened, Opened}
 use Rattle.methods.specs.Questions.{Question, question, Meaning, asked, YesExactly}
-
--- `&sheet[0..count]`
-pub front : (sheet : List Numbers) (count : ℕ) → take (count - 0) sheet ≡ take count sheet
-front sheet count = ap (λ (n : ℕ). take n sheet) (omega arith)
 
 module _ (count : ℕ) (sheet : List Numbers) (goal : Numbers) (certificate : List ℕ) where
   pub asked_many : (meaning : Meaning) → length sheet < count → Err (fault_of TooManyFacts 0 0 0) ≡ asked meaning count sheet goal certificate
@@ -25,17 +22,25 @@ module _ (count : ℕ) (sheet : List Numbers) (goal : Numbers) (certificate : Li
   room : count ≤ length sheet → leb (length (take count sheet)) (length sheet) ≡ true
   room l = le-leb _ _ (subst (λ (n : ℕ). n ≤ length sheet) (sym (length-take-le count sheet l)) l)
 
-  pub asked_stops : (rest : Meaning) (f : Fault) → count ≤ length sheet → Err f ≡ opening (take (count - 0) sheet) goal → Err f ≡ asked (opened rest) count sheet goal certificate
+  -- a method of ours begins with the opening tests
+  pub asked_opened : (rest : Meaning) → asked (opened rest) count sheet goal certificate ≡ (opening_asked count sheet goal and_then rest (question (take count sheet) goal certificate (length sheet)))
   unfolding opened
-  asked_stops rest f l e =
-      goes _ _ _ (checked _ _ (room l)) (stops _ _ f (e ∙ ap (λ (fs : List Numbers). opening fs goal) (front sheet count))) ∙ sym (asked_within (opened rest) l)
+  asked_opened rest =
+      let after = opening (take count sheet) goal in
+      let then = rest (question (take count sheet) goal certificate (length sheet)) in
+      elim (cases_lt (length sheet) count) [
+        | inl l ↦ sym (asked_many (opened rest) l) ∙ stops _ then _ (stops _ after _ (failed _ _ (lt-leb _ _ l)))
+        | inr l ↦
+            asked_within (opened rest) l
+            ∙ ap (λ (b : Bool). check b (fault_of TooManyFacts 0 0 0) and_then (after and_then then)) (room l)
+            ∙ sym (ap (λ (b : Bool). (check b (fault_of TooManyFacts 0 0 0) and_then after) and_then then) (le-leb _ _ l))
+      ]
 
-  pub asked_goes : (rest : Meaning) (r : Said) → count ≤ length sheet → Ok tt ≡ opening (take (count - 0) sheet) goal →
-      r ≡ rest (question (take (count - 0) sheet) goal certificate (length sheet)) → r ≡ asked (opened rest) count sheet goal certificate
-  unfolding opened
-  asked_goes rest r l e h =
-      goes _ _ _ (checked _ _ (room l)) (goes _ _ _ (e ∙ ap (λ (fs : List Numbers). opening fs goal) (front sheet count)) (h ∙ ap (λ (fs : List Numbers). rest (question fs goal certificate (length sheet))) (front sheet count)))
-      ∙ sym (asked_within (opened rest) l)
+  pub opening_stops : (rest : Meaning) (f : Fault) → Err f ≡ opening_asked count sheet goal → Err f ≡ asked (opened rest) count sheet goal certificate
+  opening_stops rest f e = stops _ _ f e ∙ sym (asked_opened rest)
+
+  pub opening_goes : (rest : Meaning) (r : Said) → Ok tt ≡ opening_asked count sheet goal → r ≡ rest (question (take count sheet) goal certificate (length sheet)) → r ≡ asked (opened rest) count sheet goal certificate
+  opening_goes rest r e h = goes _ _ _ e h ∙ sym (asked_opened rest)
 
   pub exactly : (meaning : Meaning) (when : Question → Type 0) (said : Said) → said ≡ asked meaning count sheet goal certificate →
       ((q : Question) → meaning q ≡ Ok tt → when q) → ((q : Question) → when q → meaning q ≡ Ok tt) → YesExactly said when count sheet goal certificate
@@ -47,3 +52,17 @@ module _ (count : ℕ) (sheet : List Numbers) (goal : Numbers) (certificate : Li
         ];
         if = λ l w. e ∙ asked_within meaning l ∙ if _ w;
       }
+
+-- what a yes of the opening tests says
+pub opening_passed : (count : ℕ) (sheet : List Numbers) (goal : Numbers) → Ok tt ≡ opening_asked count sheet goal → (count ≤ length sheet) × Opened (take count sheet) goal
+opening_passed count sheet goal e =
+    let p = both (check (leb count (length sheet)) (fault_of TooManyFacts 0 0 0)) (opening (take count sheet) goal) (sym e) in
+    (leb-true _ _ (check_true _ _ p.0), opening_yes _ _ p.1)
+
+-- the tests on the facts, as the code has them
+pub opening_begins : (count : ℕ) (sheet : List Numbers) (goal : Numbers) (facts : List Numbers) (r : Said) → count ≤ length sheet → facts ≡ take count sheet → r ≡ opening facts goal → r ≡ opening_asked count sheet goal
+opening_begins count sheet goal facts r l e h = goes _ _ _ (checked _ _ (le-leb _ _ l)) (h ∙ ap (λ (fs : List Numbers). opening fs goal) e)
+
+-- a test under other names
+pub check_is : (said : Said) (p q : Bool) (f g : Fault) → p ≡ q → f ≡ g → said ≡ check p f → said ≡ check q g
+check_is said p q f g d e h = h ∙ ap (λ (b : Bool). check b f) d ∙ ap (check q) e

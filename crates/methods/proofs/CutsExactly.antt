@@ -6,7 +6,7 @@ use Rattle.std.proofs.lemmas.Bool.{le-leb}
 use Rattle.rows.specs.declared.fault.FaultKind.TheVariants.{ColumnDiffers, LayerRowTooLarge}
 use Rattle.rows.specs.declared.limits.Limit.TheVariants.{RowNumber}
 use Rattle.rows.specs.declared.numbers.Numbers.{Numbers}
-use Rattle.rows.specs.Faults.{unless_found, moved}
+use Rattle.rows.specs.Faults.{Said, unless_found, moved}
 use Rattle.rows.specs.Limits.{columns, items, magnitude_of}
 use Rattle.rows.specs.Shapes.{Within, beyond, first_beyond}
 use Rattle.rows.proofs.Chains.{goes, checked}
@@ -18,8 +18,9 @@ use Rattle.methods.specs.CutLaws.{floor_below, floor_above, rounded, tabulate_le
 use Rattle.methods.specs.Cuts.{floor_div, divisor_from, cut_weights_from, cut_end, divisor, divided, indivisible, cut_row, cut_tests, cut_own, cut_says, IsCut, CutOwnYes, CutYes}
 use Rattle.methods.specs.LayerLaws.{room_yes}
 use Rattle.methods.specs.Layers.{adding}
-use Rattle.methods.specs.Questions.{Question, Meaning}
+use Rattle.methods.specs.Questions.{Question, Meaning, asked, YesExactly}
 use Rattle.methods.specs.Weights.{weighted}
+use Rattle.methods.proofs.Asked.{exactly}
 use Rattle.methods.proofs.LayerAnswers.{layer_only, handed_if, own_if, yes_room}
 use Rattle.methods.proofs.WeightTests.{range_yes, yes_range, weights_yes, yes_weights}
 
@@ -95,3 +96,6 @@ cut_if below q y =
       | inl h ↦ handed_if cut_own below q y.begun h
       | inr o ↦ own_if cut_own below q y.begun o.1.first_byte.0 o.1.first_byte.1 (own_yes below q o.0 o.1)
     ]
+
+pub cut_exactly : (below : Meaning) (count : ℕ) (sheet : List Numbers) (goal : Numbers) (certificate : List ℕ) (said : Said) → said ≡ asked (cut_says below) count sheet goal certificate → YesExactly said (CutYes below) count sheet goal certificate
+cut_exactly below count sheet goal certificate said e = exactly count sheet goal certificate (cut_says below) (CutYes below) said e (cut_only below) (cut_if below)

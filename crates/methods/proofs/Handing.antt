@@ -1,26 +1,31 @@
 -- Asking the method below: its faults can be moved, one more fact stands behind the others, and those stay.
-use Rattle.std.proofs.Common.{◌≡◌, ℕ, ◌+◌, ◌^◌, ◌<◌, ◌≤◌, leb, List, [], ◌∷◌, ◌++◌, length, take, set, Ok, Err, sym, refl, ap, ◌∙◌, arith}
-use Rattle.std.proofs.lemmas.List.{length-set, take_more_set, take-take, take-set}
-use Rattle.std.proofs.lemmas.Bool.{le-leb, cond-true}
+use Rattle.std.proofs.Common.{◌≡◌, ℕ, ◌+◌, ◌^◌, ◌<◌, ◌≤◌, List, [], ◌∷◌, ◌++◌, length, take, drop, set, Some, None, Ok, Err, Option, unwrap_or, sym, refl, ap, ◌∙◌, inl, inr, arith}
+use Rattle.std.proofs.lemmas.List.{drop_all, take_rest, length-drop, length-set, take_more_set, take-take, take-set}
+use Rattle.std.specs.Borrow.{Bor}
+use Rattle.std.specs.Slice.{IsGetRangeResult}
 use Rattle.rows.specs.declared.fault.Fault.{Fault}
 use Rattle.rows.specs.declared.numbers.Numbers.{Numbers}
 use Rattle.rows.specs.Faults.{Said, Movable, moved}
 use Rattle.methods.specs.Questions.{question, Meaning, Lawful, asked}
+use Rattle.methods.proofs.AskAnswers.{placed_answer}
 
 movable_from : (offset n : ℕ) (said : Said) → ((f : Fault) → said ≡ Err f → f.place ≤ n) → n + offset < 2 ^ 64 → Movable offset said
 movable_from offset n (Ok u) h l = tt
 movable_from offset n (Err f) h l = let p = h f refl in omega arith
 
-module _ (meaning : Meaning) (lawful : Lawful meaning) (count : ℕ) (sheet : List Numbers) (goal : Numbers) (part : List ℕ) (offset : ℕ) where
-  within : count ≤ length sheet → asked meaning count sheet goal part ≡ meaning (question (take count sheet) goal part (length sheet))
-  within l = cond-true (leb count (length sheet)) _ _ (le-leb _ _ l)
+-- the certificate from an offset on, which is empty past its end
+pub rest_from : (certificate : List ℕ) (offset : ℕ) (part : Option (Bor (List ℕ))) (empty rest : Bor (List ℕ)) → empty.now ≡ [] → IsGetRangeResult certificate offset (length certificate) part → rest ≡ unwrap_or part empty → rest.now ≡ drop offset certificate
+rest_from certificate offset None empty rest n h e =
+    let l : length certificate ≤ offset = elim h.0 [ inl a ↦ omega arith | inr b ↦ absurd (omega arith) ] in
+    ap (λ (r : Bor (List ℕ)). r.now) e ∙ n ∙ sym (drop_all offset certificate l)
+rest_from certificate offset (Some part) empty rest n h e =
+    ap (λ (r : Bor (List ℕ)). r.now) e ∙ h.0.2 ∙ take_rest certificate offset
 
-  -- the answer below, moved
-  pub handed_answer : (said r : Said) → count ≤ length sheet → length part + offset < 2 ^ 64 → said ≡ asked meaning count sheet goal part →
-      (Movable offset said → r ≡ moved offset said) → r ≡ moved offset (meaning (question (take count sheet) goal part (length sheet)))
-  handed_answer said r l s e m =
-      let w = e ∙ within l in
-      m (movable_from offset (length part) said (λ f x. lawful.placed (question (take count sheet) goal part (length sheet)) f (sym w ∙ x)) s) ∙ ap (moved offset) w
+-- the answer below by the certificate from an offset on, moved: every place fits
+pub moved_below : (meaning : Meaning) (lawful : Lawful meaning) (count : ℕ) (sheet : List Numbers) (goal : Numbers) (certificate : List ℕ) (offset : ℕ) (said r : Said) → length certificate < 2 ^ 64 → offset < 2 ^ 64 →
+    said ≡ asked meaning count sheet goal (drop offset certificate) → (Movable offset said → r ≡ moved offset said) → r ≡ moved offset (asked meaning count sheet goal (drop offset certificate))
+moved_below meaning lawful count sheet goal certificate offset said r c o e m =
+    m (movable_from offset (length (drop offset certificate)) said (placed_answer meaning lawful count sheet goal (drop offset certificate) said e) (omega (arith, length-drop offset certificate))) ∙ ap (moved offset) e
 
 -- the sheet with one more fact behind the others
 pub one_more : (count : ℕ) (sheet : List Numbers) (fact : Numbers) → count < length sheet → take (count + 1) (set sheet count fact) ≡ take count sheet ++ fact ∷ []

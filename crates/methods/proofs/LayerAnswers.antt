@@ -1,6 +1,6 @@
 -- A question to a layer: what each way through its code answers, and when the answer is yes.
-use Rattle.std.proofs.Common.{◌≡◌, ℕ, ◌-◌, ◌<◌, ◌≤◌, cond, ◌&&◌, eqb, ltb, ◌⊎◌, List, length, get_or, take, drop, Ok, Err, Result, sym, ap, ◌∙◌, inl, inr}
-use Rattle.std.proofs.lemmas.List.{take_rest, length-take-le}
+use Rattle.std.proofs.Common.{◌≡◌, ℕ, ◌<◌, ◌≤◌, cond, ◌&&◌, eqb, ltb, ◌⊎◌, List, length, get_or, take, drop, Ok, Err, Result, sym, refl, ap, ◌∙◌, inl, inr}
+use Rattle.std.proofs.lemmas.List.{length-take-le}
 use Rattle.std.proofs.lemmas.Bool.{lt-ltb, and_from, cond-true}
 use Rattle.rows.specs.declared.fault.Fault.{Fault}
 use Rattle.rows.specs.declared.fault.FaultKind.TheVariants.{LayerByte, NoRoomForFact}
@@ -13,39 +13,33 @@ use Rattle.methods.specs.Cuts.{HandedYes}
 use Rattle.methods.specs.LayerLaws.{by_first-cases, moved_yes}
 use Rattle.methods.specs.Layers.{first_byte_of, by_first, from, room_says, layered}
 use Rattle.methods.specs.OpeningLaws.{opened_yes, yes_opened}
-use Rattle.methods.specs.Openings.{most_facts, opening, Begun}
+use Rattle.methods.specs.Openings.{most_facts, opening_asked, Begun}
 use Rattle.methods.specs.Questions.{Question, question, Meaning, asked}
-use Rattle.methods.proofs.Asked.{front, asked_stops, asked_goes}
+use Rattle.methods.proofs.Asked.{asked_within, opening_stops, opening_goes, opening_passed}
 
 module _ (own : Meaning → Meaning) (below : Meaning) (count : ℕ) (sheet : List Numbers) (goal : Numbers) (certificate : List ℕ) where
-  pub layer_stops : (f : Fault) → count ≤ length sheet → Err f ≡ opening (take (count - 0) sheet) goal → Err f ≡ asked (layered own below) count sheet goal certificate
+  pub layer_stops : (f : Fault) → Err f ≡ opening_asked count sheet goal → Err f ≡ asked (layered own below) count sheet goal certificate
   unfolding layered
-  layer_stops f l e = asked_stops count sheet goal certificate _ f l e
+  layer_stops f e = opening_stops count sheet goal certificate _ f e
 
-  pub layer_byte : (f : Fault) → count ≤ length sheet → Ok tt ≡ opening (take (count - 0) sheet) goal → Err f ≡ first_byte_of certificate → Err f ≡ asked (layered own below) count sheet goal certificate
-  unfolding layered
-  layer_byte f l e b =
-      let q = question (take (count - 0) sheet) goal certificate (length sheet) in
-      asked_goes count sheet goal certificate _ (Err f) l e (ap (λ (r : Result FirstByte Fault). by_first r (moved 1 (below (from 1 q))) (own below q)) b)
+  module _ (e : Ok tt ≡ opening_asked count sheet goal) where
+    -- after the opening tests
+    then : (r : Said) (first : Result FirstByte Fault) → first ≡ first_byte_of certificate →
+        r ≡ by_first first (moved 1 (below (question (take count sheet) goal (drop 1 certificate) (length sheet)))) (own below (question (take count sheet) goal certificate (length sheet))) →
+        r ≡ asked (layered own below) count sheet goal certificate
+    unfolding layered
+    then r first b h =
+        opening_goes count sheet goal certificate _ r e
+        (h ∙ ap (λ (x : Result FirstByte Fault). by_first x (moved 1 (below (question (take count sheet) goal (drop 1 certificate) (length sheet)))) (own below (question (take count sheet) goal certificate (length sheet)))) b)
 
-  pub layer_handed : (r : Said) → count ≤ length sheet → Ok tt ≡ opening (take (count - 0) sheet) goal → Ok HandDown ≡ first_byte_of certificate →
-      r ≡ moved 1 (below (question (take count sheet) goal (take (length certificate - 1) (drop 1 certificate)) (length sheet))) → r ≡ asked (layered own below) count sheet goal certificate
-  unfolding layered
-  layer_handed r l e b h =
-      let q = question (take (count - 0) sheet) goal certificate (length sheet) in
-      asked_goes count sheet goal certificate _ r l e
-      (h ∙ ap (λ (part : List ℕ). moved 1 (below (question (take count sheet) goal part (length sheet)))) (take_rest certificate 1)
-      ∙ ap (λ (fs : List Numbers). moved 1 (below (question fs goal (drop 1 certificate) (length sheet)))) (sym (front sheet count))
-      ∙ ap (λ (x : Result FirstByte Fault). by_first x (moved 1 (below (from 1 q))) (own below q)) b)
+    pub layer_byte : (f : Fault) → Err f ≡ first_byte_of certificate → Err f ≡ asked (layered own below) count sheet goal certificate
+    layer_byte f b = then (Err f) (Err f) b refl
 
-  pub layer_own : (r : Said) → count ≤ length sheet → Ok tt ≡ opening (take (count - 0) sheet) goal → Ok Own ≡ first_byte_of certificate →
-      r ≡ own below (question (take count sheet) goal certificate (length sheet)) → r ≡ asked (layered own below) count sheet goal certificate
-  unfolding layered
-  layer_own r l e b h =
-      let q = question (take (count - 0) sheet) goal certificate (length sheet) in
-      asked_goes count sheet goal certificate _ r l e
-      (h ∙ ap (λ (fs : List Numbers). own below (question fs goal certificate (length sheet))) (sym (front sheet count))
-      ∙ ap (λ (x : Result FirstByte Fault). by_first x (moved 1 (below (from 1 q))) (own below q)) b)
+    pub layer_handed : (r : Said) → Ok HandDown ≡ first_byte_of certificate → r ≡ moved 1 (asked below count sheet goal (drop 1 certificate)) → r ≡ asked (layered own below) count sheet goal certificate
+    layer_handed r b h = then r (Ok HandDown) b (h ∙ ap (moved 1) (asked_within count sheet goal (drop 1 certificate) below (opening_passed count sheet goal e).0))
+
+    pub layer_own : (r : Said) → Ok Own ≡ first_byte_of certificate → r ≡ own below (question (take count sheet) goal certificate (length sheet)) → r ≡ asked (layered own below) count sheet goal certificate
+    layer_own r b h = then r (Ok Own) b h
 
 -- the first byte
 first_is : (certificate : List ℕ) (b : ℕ) → 0 < length certificate → get_or certificate 0 0 ≡ b →

@@ -1,12 +1,14 @@
 pub mod RowTests
 pub mod WeightTests
 pub mod WeightedSums
+pub mod FirstColumn
 pub mod Asked
 pub mod AskAnswers
 pub mod SumsExactly
 pub mod Listed
 pub mod Handing
 pub mod Divisions
+pub mod Tabulated
 pub mod LayerAnswers
 pub mod CutsExactly
 pub mod CutAnswers

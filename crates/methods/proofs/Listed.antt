@@ -1,36 +1,28 @@
--- The look-up's search, fact by fact, and that it says yes exactly when all its conditions hold.
-use Rattle.std.proofs.Common.{◌≡◌, ℕ, ◌+◌, ◌<◌, ◌≤◌, Bool, true, false, ◌||◌, List, [], ◌∷◌, length, get_or, drop, ℤ, ◌≤ℤ◌, Ok, sym, ap, ◌∙◌, subst, arith}
+-- The look-up's comparison, and that it says yes exactly when all its conditions hold.
+use Rattle.std.proofs.Common.{◌≡◌, ℕ, ◌+◌, ◌<◌, ◌≤◌, Bool, true, false, ◌||◌, List, [], ◌∷◌, length, get_or, drop, ℤ, ◌≤ℤ◌, Ok, sym, refl, subst, arith}
 use mathlib.Core.Logic.{∥∥₁_elim}
 use mathlib.Core.Bool.{Bool-set}
 use lib.Signed.{le_z}
+use Rattle.std.specs.Cmp.Lexicographic.{pointwise}
+use Rattle.std.specs.Ordering.{int_eq}
 use Rattle.std.proofs.lemmas.List.{at_drop_more, at_drop_all}
 use Rattle.std.proofs.lemmas.Int.{ints}
 use Rattle.std.proofs.lemmas.Bool.{eq-eqb, and_from, or_left, or_right}
 use Rattle.std.specs.List.{ContainsAt as Has}
 use Rattle.rows.specs.declared.numbers.Numbers.{Numbers}
+use Rattle.rows.specs.Faults.{Said}
 use Rattle.rows.specs.Wholes.{alike}
 use Rattle.rows.proofs.Chains.{goes, checked}
-use Rattle.rows.proofs.Equalities.{alike_decides}
+use Rattle.rows.proofs.Equalities.{alike_decides, alike_is}
 use Rattle.methods.specs.LooksUp.{covers, listed, search_says, look_up_says, Covers, LookUpYes}
 use Rattle.methods.specs.LooksUpLaws.{listed_yes, search_yes}
 use Rattle.methods.specs.OpeningLaws.{opened_yes, yes_opened}
-use Rattle.methods.specs.Questions.{Question}
+use Rattle.methods.specs.Questions.{Question, asked, YesExactly}
+use Rattle.methods.proofs.Asked.{exactly}
 
--- a loop over the facts: what is left answers as the whole
-module _ (goal : Numbers) (facts : List Numbers) (i : ℕ) (inv : listed goal (drop i facts) ≡ listed goal facts) where
-  step : (d : Numbers) → i < length facts → listed goal facts ≡ (covers (get_or facts i d) goal || listed goal (drop (i + 1) facts))
-  step d l =
-      let s : listed goal (drop i facts) ≡ (covers (get_or facts i d) goal || listed goal (drop (i + 1) facts)) = at_drop_more (listed goal) facts i d l in
-      sym inv ∙ s
-
-  pub listed_here : (d : Numbers) → i < length facts → true ≡ covers (get_or facts i d) goal → true ≡ listed goal facts
-  listed_here d l e = ap (λ (b : Bool). b || listed goal (drop (i + 1) facts)) e ∙ sym (step d l)
-
-  pub listed_more : (d : Numbers) → i < length facts → false ≡ covers (get_or facts i d) goal → listed goal (drop (i + 1) facts) ≡ listed goal facts
-  listed_more d l e = ap (λ (b : Bool). b || listed goal (drop (i + 1) facts)) e ∙ sym (step d l)
-
-  pub listed_none : length facts ≤ i → false ≡ listed goal facts
-  listed_none l = sym (at_drop_all (listed goal) facts i l) ∙ inv
+-- what `==` on two arrays answers
+pub alike_pointwise : (xs ys : List ℤ) → pointwise int_eq xs ys ≡ alike xs ys
+alike_pointwise xs ys = alike_is xs ys (pointwise int_eq xs ys) refl
 
 le_test : (a b : ℤ) → a ≤ℤ b → le_z a b ≡ true
 le_test a b h = grind (arith, ints)
@@ -56,3 +48,6 @@ look_up_if q y =
     let l : listed q.goal q.facts ≡ true = ∥∥₁_elim y.stands (Bool-set _ _) (λ r. yes_listed q.goal q.facts r.0 r.1.0 r.1.1) in
     yes_opened (λ q. search_says q.facts q.goal q.certificate) q y.begun
     (sym (goes _ _ _ (checked _ _ (eq-eqb _ _ y.empty)) (checked _ _ l)))
+
+pub look_up_exactly : (count : ℕ) (sheet : List Numbers) (goal : Numbers) (certificate : List ℕ) (said : Said) → said ≡ asked look_up_says count sheet goal certificate → YesExactly said LookUpYes count sheet goal certificate
+look_up_exactly count sheet goal certificate said e = exactly count sheet goal certificate look_up_says LookUpYes said e look_up_only look_up_if

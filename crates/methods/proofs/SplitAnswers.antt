@@ -1,7 +1,7 @@
 -- The row of a split, and its own part: what each way through its code answers.
-use Rattle.std.proofs.Common.{◌≡◌, ℕ, ◌-◌, ◌<◌, ◌≤◌, not, ◌&&◌, ltb, List, [], ◌∷◌, ◌++◌, length, take, drop, Ok, Err, Result, sym, ap, ◌∙◌, subst, arith}
+use Rattle.std.proofs.Common.{◌≡◌, ℕ, ◌+◌, ◌<◌, ◌≤◌, not, ◌&&◌, ltb, List, [], ◌∷◌, ◌++◌, length, take, drop, Ok, Err, Result, sym, ap, ◌∙◌, subst}
 use Rattle.std.specs.Result.{MatchResult, IsErrAnd}
-use Rattle.std.proofs.lemmas.List.{take_rest}
+use Rattle.std.proofs.lemmas.List.{drop-take}
 use Rattle.std.proofs.lemmas.Bool.{le-leb, lt-leb}
 use Rattle.rows.specs.declared.fault.Fault.{Fault}
 use Rattle.rows.specs.declared.fault.FaultKind.TheVariants.{CertificateLength, LayerRowTooLarge, NoRoomForFact}
@@ -9,7 +9,7 @@ use Rattle.rows.specs.declared.limits.Limit.TheVariants.{WrittenNumber}
 use Rattle.rows.specs.declared.numbers.Numbers.{Numbers}
 use Rattle.rows.specs.declared.numbers.TooLarge.{TooLarge}
 use Rattle.rows.specs.declared.written.WrittenRow.{WrittenRow}
-use Rattle.rows.specs.Faults.{Said, fault_of, check, moved}
+use Rattle.rows.specs.Faults.{Said, fault_of, ◌and_then◌, check, moved}
 use Rattle.rows.specs.Limits.{items, magnitude_of}
 use Rattle.rows.specs.Made.{FirstOver}
 use Rattle.rows.specs.WrittenMade.{WrittenFrom}
@@ -17,10 +17,11 @@ use Rattle.rows.specs.Shapes.{Within, beyond, first_beyond, opposite_of}
 use Rattle.rows.proofs.Chains.{stops, goes, checked, failed}
 use Rattle.rows.proofs.First.{none_first, some_first}
 use Rattle.methods.specs.Layers.{adding}
-use Rattle.methods.specs.Openings.{most_facts}
+use Rattle.methods.specs.Openings.{most_facts, opening_asked}
 use Rattle.methods.specs.Questions.{question, Meaning}
-use Rattle.methods.specs.SplitsAsk.{SplitMade, half, in_turn}
+use Rattle.methods.specs.SplitsAsk.{SplitMade, halves}
 use Rattle.methods.specs.Splits.{number_from, first_from, first_length, second_from, first_part, second_part, split_row, unless_written, split_tests, split_own}
+use Rattle.methods.proofs.Asked.{opening_passed}
 use Rattle.methods.proofs.LayerAnswers.{room_count}
 
 module _ (certificate : List ℕ) where
@@ -48,7 +49,10 @@ module _ (certificate : List ℕ) where
   row_made numbers (Err x) (Ok row) l e w h = absurd h
   row_made numbers (Err x) (Err f) l e w h = ap (λ (y : Fault). Err y) h ∙ row_too_large numbers x.item l e w
 
-module _ (below : Meaning) (count : ℕ) (sheet : List Numbers) (goal : Numbers) (certificate : List ℕ) (within : count ≤ length sheet) where
+module _ (below : Meaning) (count : ℕ) (sheet : List Numbers) (goal : Numbers) (certificate : List ℕ) (opened : Ok tt ≡ opening_asked count sheet goal) where
+  within : count ≤ length sheet
+  within = (opening_passed count sheet goal opened).0
+
   pub own_no_room : (f : Fault) → Err f ≡ check (ltb count most_facts && ltb count (length sheet)) (fault_of NoRoomForFact 0 0 0) → Err f ≡ split_own below (question (take count sheet) goal certificate (length sheet))
   unfolding split_own
   own_no_room f e = stops _ _ f (e ∙ room_count count sheet goal certificate within)
@@ -58,22 +62,14 @@ module _ (below : Meaning) (count : ℕ) (sheet : List Numbers) (goal : Numbers)
     unfolding split_own
     own_no_row f e = goes _ _ _ (m ∙ room_count count sheet goal certificate within) (stops _ _ f e)
 
-    module _ (t : Ok tt ≡ split_tests certificate) (row : Numbers) (e : row ≡ split_row certificate) (second : ℕ) (s : second ≡ second_from certificate) where
-      -- the halves, as the code asks them
-      first_half : half below first_from second row (question (take count sheet) goal certificate (length sheet)) ≡ moved first_from (below (adding (split_row certificate) (first_part certificate) (question (take count sheet) goal certificate (length sheet))))
-      first_half =
-          let n : second - first_from ≡ first_length certificate = omega (arith, s) in
-          ap (λ (k : ℕ). moved first_from (below (question (take count sheet ++ row ∷ []) goal (take k (drop first_from certificate)) (length sheet)))) n
-          ∙ ap (λ (x : Numbers). moved first_from (below (question (take count sheet ++ x ∷ []) goal (first_part certificate) (length sheet)))) e
-
-      second_half : half below second (length certificate) (opposite_of row) (question (take count sheet) goal certificate (length sheet)) ≡ moved (second_from certificate) (below (adding (opposite_of (split_row certificate)) (second_part certificate) (question (take count sheet) goal certificate (length sheet))))
-      second_half =
-          ap (λ (part : List ℕ). moved second (below (question (take count sheet ++ opposite_of row ∷ []) goal part (length sheet)))) (take_rest certificate second)
-          ∙ ap (λ (x : Numbers). moved second (below (question (take count sheet ++ opposite_of x ∷ []) goal (drop second certificate) (length sheet)))) e
-          ∙ ap (λ (i : ℕ). moved i (below (question (take count sheet ++ opposite_of (split_row certificate) ∷ []) goal (drop i certificate) (length sheet)))) s
-
-      pub own_both : (r : Said) → r ≡ in_turn (half below first_from second row (question (take count sheet) goal certificate (length sheet))) (half below second (length certificate) (opposite_of row) (question (take count sheet) goal certificate (length sheet))) → r ≡ split_own below (question (take count sheet) goal certificate (length sheet))
-      unfolding split_own
-      own_both r h =
-          goes _ _ _ (m ∙ room_count count sheet goal certificate within) (goes _ _ _ t
-          (h ∙ ap (λ (x : Said). in_turn x (half below second (length certificate) (opposite_of row) (question (take count sheet) goal certificate (length sheet)))) first_half ∙ ap (in_turn (moved first_from (below (adding (split_row certificate) (first_part certificate) (question (take count sheet) goal certificate (length sheet)))))) second_half))
+    -- the halves, as the code asks them
+    pub own_both : (row : Numbers) (second : ℕ) (r : Said) → Ok tt ≡ split_tests certificate → row ≡ split_row certificate → second ≡ second_from certificate →
+        r ≡ halves below row second (question (take count sheet) goal certificate (length sheet)) → r ≡ split_own below (question (take count sheet) goal certificate (length sheet))
+    unfolding split_own
+    own_both row second r t e s h =
+        let part : drop first_from (take second certificate) ≡ first_part certificate = ap (λ (k : ℕ). drop first_from (take k certificate)) s ∙ drop-take first_from (first_length certificate) certificate in
+        goes _ _ _ (m ∙ room_count count sheet goal certificate within)
+        (goes _ _ _ t
+        (h ∙ ap (λ (p : List ℕ). moved first_from (below (question (take count sheet ++ row ∷ []) goal p (length sheet))) and_then moved second (below (question (take count sheet ++ opposite_of row ∷ []) goal (drop second certificate) (length sheet)))) part
+        ∙ ap (λ (x : Numbers). moved first_from (below (question (take count sheet ++ x ∷ []) goal (first_part certificate) (length sheet))) and_then moved second (below (question (take count sheet ++ opposite_of x ∷ []) goal (drop second certificate) (length sheet)))) e
+        ∙ ap (λ (k : ℕ). moved first_from (below (question (take count sheet ++ split_row certificate ∷ []) goal (first_part certificate) (length sheet))) and_then moved k (below (question (take count sheet ++ opposite_of (split_row certificate) ∷ []) goal (drop k certificate) (length sheet)))) s))

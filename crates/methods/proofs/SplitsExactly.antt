@@ -1,16 +1,18 @@
 -- The split says yes exactly when all its conditions hold.
-use Rattle.std.proofs.Common.{◌≡◌, not, Ok, sym, ap, inl, inr}
+use Rattle.std.proofs.Common.{◌≡◌, ℕ, not, List, Ok, sym, ap, inl, inr}
 use Rattle.std.proofs.lemmas.Bool.{le-leb}
 use Rattle.rows.specs.declared.limits.Limit.TheVariants.{WrittenNumber}
-use Rattle.rows.specs.Faults.{moved}
+use Rattle.rows.specs.declared.numbers.Numbers.{Numbers}
+use Rattle.rows.specs.Faults.{Said, moved}
 use Rattle.rows.specs.Limits.{items, magnitude_of}
 use Rattle.rows.specs.Shapes.{beyond, first_beyond}
 use Rattle.rows.proofs.Chains.{goes, checked}
 use Rattle.rows.proofs.First.{none_first}
 use Rattle.methods.specs.LayerLaws.{room_yes}
-use Rattle.methods.specs.Questions.{Question, Meaning}
+use Rattle.methods.specs.Questions.{Question, Meaning, asked, YesExactly}
 use Rattle.methods.specs.SplitLaws.{split_passed, split_own_yes}
 use Rattle.methods.specs.Splits.{first_from, second_from, split_row, unless_written, split_tests, split_own, split_says, SplitOwnYes, SplitYes}
+use Rattle.methods.proofs.Asked.{exactly}
 use Rattle.methods.proofs.LayerAnswers.{layer_only, handed_if, own_if, yes_room}
 
 pub split_only : (below : Meaning) (q : Question) → split_says below q ≡ Ok tt → SplitYes below q
@@ -42,3 +44,6 @@ split_if below q y =
       | inl h ↦ handed_if split_own below q y.begun h
       | inr o ↦ own_if split_own below q y.begun o.first_byte.0 o.first_byte.1 (own_yes below q o)
     ]
+
+pub split_exactly : (below : Meaning) (count : ℕ) (sheet : List Numbers) (goal : Numbers) (certificate : List ℕ) (said : Said) → said ≡ asked (split_says below) count sheet goal certificate → YesExactly said (SplitYes below) count sheet goal certificate
+split_exactly below count sheet goal certificate said e = exactly count sheet goal certificate (split_says below) (SplitYes below) said e (split_only below) (split_if below)

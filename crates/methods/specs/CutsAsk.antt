@@ -1,24 +1,14 @@
--- What the division of the facts' sums asks, and what is made of a certificate on the way to the row that a cut adds.
-use Rattle.std.specs.Prelude.{◌≡◌, ℕ, ◌≤◌, List, length, Ok, Err, Result}
-use Rattle.std.specs.List.{AllByRecursion}
+-- What the division of the facts' sums rests on, and what is made of a certificate on the way to the row that a cut adds.
+use Rattle.std.specs.Prelude.{◌≡◌, ℕ, ◌≤◌, List, Ok, Err, Result}
 use Rattle.rows.specs.declared.fault.Fault.{Fault}
-use Rattle.rows.specs.declared.limits.Limit.TheVariants.{RowNumber}
 use Rattle.rows.specs.declared.numbers.Numbers.{Numbers}
-use Rattle.rows.specs.Limits.{magnitude_of}
-use Rattle.rows.specs.Shapes.{Within}
 use Rattle.methods.specs.Cuts.{cut_weights_from, divisor, cut_row, cut_tests}
-use Rattle.methods.specs.Openings.{most_facts}
-use Rattle.methods.specs.Weighing.{Weighable}
 use Rattle.methods.specs.Weights.{most_weight}
 
--- few facts, all of them rows
-pub record Rows (facts : List Numbers) : Type 0 where
-  pub few : length facts ≤ most_facts
-  pub are_rows : AllByRecursion (Within (magnitude_of RowNumber)) facts
-
--- the facts can be weighed and the divisor is in range
-pub record Divisible (certificate : List ℕ) (facts : List Numbers) : Type 0 where
-  pub weighable : Weighable certificate cut_weights_from facts
+-- the multipliers stand behind the divisor, which is the certificate's and in range
+pub record Divisible (certificate : List ℕ) (from number : ℕ) : Type 0 where
+  pub behind : from ≡ cut_weights_from
+  pub written : number ≡ divisor certificate
   pub divisor_least : 1 ≤ divisor certificate
   pub divisor_most : divisor certificate ≤ most_weight
 

@@ -1,6 +1,6 @@
 -- The look-up: the goal, or a stronger row with its coefficients, stands among the facts.
-use Rattle.std.specs.Prelude.{◌≡◌, ℕ, Bool, false, ◌&&◌, ◌||◌, List, [], ◌∷◌, length, ◌≤ℤ◌, ◌==◌, int_le}
-use Rattle.std.specs.List.{ContainsAt as Has}
+use Rattle.std.specs.Prelude.{◌≡◌, ℕ, Bool, ◌&&◌, List, length, ◌≤ℤ◌, ◌==◌, int_le}
+use Rattle.std.specs.List.{ContainsAt as Has, list_any}
 use Rattle.rows.specs.declared.fault.FaultKind.TheVariants.{CertificateLength, BoundNotShown}
 use Rattle.rows.specs.declared.numbers.Numbers.{Numbers}
 use Rattle.rows.specs.Faults.{Said, fault_of, ◌and_then◌, check}
@@ -13,9 +13,9 @@ use Rattle.methods.specs.Questions.{Question, Meaning}
 abbrev pub covers : Numbers → Numbers → Bool
 covers fact goal = alike fact.coefficients goal.coefficients && int_le fact.bound goal.bound
 
+-- whether one of the facts is such a one
 abbrev pub listed : Numbers → List Numbers → Bool
-listed goal [] = false
-listed goal (fact ∷ facts) = covers fact goal || listed goal facts
+listed goal facts = list_any (λ fact. covers fact goal) facts
 
 -- the tests behind the opening ones, in their order
 unfoldable pub search_says : List Numbers → Numbers → List ℕ → Said

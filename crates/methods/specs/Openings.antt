@@ -1,5 +1,5 @@
 -- The tests with which each of our methods begins: not too many facts, and all facts and the goal are rows.
-use Rattle.std.specs.Prelude.{ℕ, ◌≤◌, List, [], ◌∷◌, length, Ok, nat_le}
+use Rattle.std.specs.Prelude.{ℕ, ◌≤◌, List, [], ◌∷◌, length, take, Ok, nat_le}
 use Rattle.std.specs.List.{AllByRecursion}
 use Rattle.rows.specs.declared.fault.FaultKind.TheVariants.{TooManyFacts, RowNumberTooLarge}
 use Rattle.rows.specs.declared.limits.Limit.TheVariants.{RowNumber}
@@ -28,6 +28,10 @@ opening facts goal =
     check (nat_le (length facts) most_facts) (fault_of TooManyFacts 0 0 0)
     and_then rows_say facts
     and_then row_says goal
+
+-- the same about the first `count` rows of a sheet: it has so many rows, and then they and the goal pass
+abbrev pub opening_asked : ℕ → List Numbers → Numbers → Said
+opening_asked count sheet goal = check (nat_le count (length sheet)) (fault_of TooManyFacts 0 0 0) and_then opening (take count sheet) goal
 
 -- a method of ours: no more facts than the sheet has rows, the opening tests, then its own
 unfoldable pub opened : Meaning → Meaning

@@ -9,6 +9,11 @@ use Rattle.methods.specs.Openings.{most_facts}
 use Rattle.rows.specs.Bytes.{word_at}
 use Rattle.methods.specs.Weights.{most_weight}
 
+-- few facts, all of them rows
+pub record Rows (facts : List Numbers) : Type 0 where
+  pub few : length facts ≤ most_facts
+  pub are_rows : AllByRecursion (Within (magnitude_of RowNumber)) facts
+
 -- few facts, all of them rows, with a multiplier in range for each from `at` on
 pub record Weighable (bytes : List ℕ) (at : ℕ) (facts : List Numbers) : Type 0 where
   pub few : length facts ≤ most_facts

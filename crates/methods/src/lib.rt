@@ -2,6 +2,9 @@
 #![tactic(auto)]
 
 mod asking;
+pub mod checking;
+pub mod claim;
+mod columns;
 pub mod cut;
 pub mod layer;
 pub mod limits;
@@ -13,6 +16,8 @@ pub mod split;
 mod weights;
 
 pub use asking::ask;
+pub use checking::check;
+pub use claim::Claim;
 pub use cut::Cut;
 pub use look_up::LookUp;
 pub use method::ProofMethod;

@@ -1,12 +1,13 @@
 // The look-up: the goal, or a stronger row with its coefficients, stands among the facts.
-ghost use Rattle.std.specs.Prelude.{◌≡◌, ℕ, length, take, Err, ◌==◌, int_le};
+ghost use Rattle.std.specs.Prelude.{◌≡◌, ℕ, take, Err};
 ghost use Rattle.methods.specs.LooksUp.{covers as covers_row, listed as is_listed, search_says, look_up_says, LookUpYes};
 ghost use Rattle.methods.specs.LooksUpLaws.{look_up_lawful};
 ghost use Rattle.methods.specs.Questions.{asked, YesExactly};
-ghost use Rattle.rows.specs.Faults.{Stated, fault_of, check};
+ghost use Rattle.rows.specs.Faults.{Stated};
 ghost use Rattle.rows.specs.declared.fault.Fault.{Fault};
-ghost use Rattle.rows.specs.declared.fault.FaultKind.TheVariants.{CertificateLength};
 
+use crate::checking::check;
+use crate::claim::Claim;
 use crate::method::ProofMethod;
 use crate::opening::opening;
 use rows::limits::BOUND_ITEM;
@@ -16,53 +17,32 @@ use rows::{Answer, Fault, FaultKind, Numbers};
 #[derive(Clone, Copy)]
 pub struct LookUp;
 
-// Whether the fact's bound is at most the goal's.
-fn bound_at_most(fact: &Numbers, goal: &Numbers) -> bool
-    ensures { result ≡ int_le fact.now.bound goal.now.bound }
-{
-    fact.bound <= goal.bound
-}
-
 // Whether the fact has the goal's coefficients and a bound at most the goal's.
+#[tactic(auto, using(crate::proofs::Listed::alike_pointwise))]
 fn covers(fact: &Numbers, goal: &Numbers) -> bool
     ensures { result ≡ covers_row fact.now goal.now }
 {
-    fact.coefficients == goal.coefficients && bound_at_most(fact, goal)
+    fact.coefficients == goal.coefficients && fact.bound <= goal.bound
 }
 
 // Whether one of the facts does.
 fn listed(facts: &[Numbers], goal: &Numbers) -> bool
     ensures { result ≡ is_listed goal.now facts.now }
 {
-    for fact in facts {
-        if covers(fact, goal) {
-            return true;
-        }
-    }
-    false
-}
-
-// Whether the certificate is empty.
-fn empty_test(certificate: &[u8]) -> Answer
-    ensures { result ≡ check (length certificate.now == 0) (fault_of CertificateLength 0 0 0) }
-{
-    if certificate.is_empty() {
-        Ok(())
-    } else {
-        Err(Fault::of(FaultKind::CertificateLength))
-    }
+    facts.iter().any(|fact| covers(fact, goal))
 }
 
 // The tests behind the opening ones.
+#[tactic(auto, unfolding(crate::specs::LooksUp::search_says))]
 fn search_test(facts: &[Numbers], goal: &Numbers, certificate: &[u8]) -> Answer
     ensures { result ≡ search_says facts.now goal.now certificate.now }
 {
-    empty_test(certificate)?;
-    if listed(facts, goal) {
-        Ok(())
-    } else {
-        Err(Fault::with_item(FaultKind::BoundNotShown, BOUND_ITEM))
-    }
+    check(
+        certificate.is_empty(),
+        Fault::of(FaultKind::CertificateLength),
+    )?;
+    let unshown = Fault::with_item(FaultKind::BoundNotShown, BOUND_ITEM);
+    check(listed(facts, goal), unshown)
 }
 
 impl ProofMethod for LookUp {
@@ -70,24 +50,14 @@ impl ProofMethod for LookUp {
 
     ghost lawful = { λ _. look_up_lawful };
 
-    fn question(
-        &self,
-        sheet: &mut [Numbers],
-        count: usize,
-        goal: &Numbers,
-        certificate: &[u8],
-    ) -> Answer
-        ensures answer { result ≡ asked look_up_says count sheet.old goal.now certificate.now }
-        ensures kept { take count sheet.new ≡ take count sheet.old }
+    fn question(&self, sheet: &mut [Numbers], claim: Claim<'_>) -> Answer
+        ensures answer { result ≡ asked look_up_says claim.entry.count sheet.old claim.entry.goal.now claim.entry.certificate.now }
+        ensures kept { take claim.entry.count sheet.new ≡ take claim.entry.count sheet.old }
         ensures same { sheet.new ≡ sheet.old }
         ensures stated { (f : Fault) → result ≡ Err f → Stated f }
-        ensures exactly { YesExactly result LookUpYes count sheet.old goal.now certificate.now }
+        ensures exactly { YesExactly result LookUpYes claim.entry.count sheet.old claim.entry.goal.now claim.entry.certificate.now }
     {
-        if count > sheet.len() {
-            return Err(Fault::of(FaultKind::TooManyFacts));
-        }
-        let facts = &sheet[0..count];
-        opening(facts, goal)?;
-        search_test(facts, goal, certificate)
+        let facts = opening(claim, sheet)?;
+        search_test(facts, claim.goal, claim.certificate)
     }
 }

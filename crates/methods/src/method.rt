@@ -2,6 +2,7 @@
 ghost use Rattle.std.specs.Prelude.{◌≡◌, ℕ, take};
 ghost use Rattle.methods.specs.Questions.{Meaning, Lawful, asked};
 
+use crate::claim::Claim;
 use rows::{Answer, Numbers};
 
 // A way to show that a goal follows from facts, by a certificate. Whoever adds a method gives its meaning and shows
@@ -13,15 +14,9 @@ pub trait ProofMethod {
     // After a yes every point that meets all facts meets the goal; a fault's place lies within the certificate.
     ghost lawful: { (m : Self) → Lawful (meaning m) };
 
-    // The answer to the question whether the goal follows from the first `count` rows of the sheet, which stay as they
-    // are. Rows behind them may hold anything afterwards.
-    fn question(
-        &self,
-        sheet: &mut [Numbers],
-        count: usize,
-        goal: &Numbers,
-        certificate: &[u8],
-    ) -> Answer
-        ensures answer { result ≡ asked (meaning self.now) count sheet.old goal.now certificate.now }
-        ensures kept { take count sheet.new ≡ take count sheet.old };
+    // The answer to the question whether the claim about the sheet holds. The rows that it counts stay as they are; those
+    // behind them may hold anything afterwards.
+    fn question(&self, sheet: &mut [Numbers], claim: Claim<'_>) -> Answer
+        ensures answer { result ≡ asked (meaning self.now) claim.entry.count sheet.old claim.entry.goal.now claim.entry.certificate.now }
+        ensures kept { take claim.entry.count sheet.new ≡ take claim.entry.count sheet.old };
 }

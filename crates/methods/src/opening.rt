@@ -1,9 +1,9 @@
 // The tests with which each of our methods begins.
-ghost use Rattle.methods.specs.Openings.{most_facts, opening as opening_says, row_says, rows_say};
-ghost use Rattle.rows.specs.Faults.{fault_of, check};
-ghost use Rattle.rows.specs.declared.fault.FaultKind.TheVariants.{TooManyFacts};
-ghost use Rattle.std.specs.Prelude.{◌≡◌, nat_le};
+ghost use Rattle.methods.specs.Openings.{opening_asked, row_says, rows_say};
+ghost use Rattle.std.specs.Prelude.{◌≡◌, take, MatchResult};
 
+use crate::checking::check;
+use crate::claim::Claim;
 use crate::limits::MOST_FACTS;
 use rows::{Answer, Fault, FaultKind, Numbers, Row};
 
@@ -25,22 +25,17 @@ fn rows_test(facts: &[Numbers]) -> Answer
     Ok(())
 }
 
-// Whether there are no more facts than a question may have.
-fn count_test(count: usize) -> Answer
-    ensures { result ≡ check (nat_le count most_facts) (fault_of TooManyFacts 0 0 0) }
+// The claim's facts, if there are not too many, and they and the goal are rows.
+#[tactic(auto, unfolding(crate::specs::Openings::opening))]
+pub(crate) fn opening<'s>(claim: Claim<'_>, sheet: &'s [Numbers]) -> Result<&'s [Numbers], Fault>
+    ensures { MatchResult result (λ facts. (Ok tt ≡ opening_asked claim.entry.count sheet.now claim.entry.goal.now) × (facts.now ≡ take claim.entry.count sheet.now)) (λ f. Err f ≡ opening_asked claim.entry.count sheet.now claim.entry.goal.now) }
 {
-    if count <= MOST_FACTS {
-        Ok(())
-    } else {
-        Err(Fault::of(FaultKind::TooManyFacts))
-    }
-}
-
-// Not too many facts, and the facts and the goal are rows.
-pub(crate) fn opening(facts: &[Numbers], goal: &Numbers) -> Answer
-    ensures { result ≡ opening_says facts.now goal.now }
-{
-    count_test(facts.len())?;
+    let facts = claim.facts(sheet)?;
+    check(
+        facts.len() <= MOST_FACTS,
+        Fault::of(FaultKind::TooManyFacts),
+    )?;
     rows_test(facts)?;
-    row_test(goal)
+    row_test(claim.goal)?;
+    Ok(facts)
 }

@@ -1,17 +1,19 @@
 // The split, a layer: the goal is shown below with a row as one more fact, and then with the row's opposite.
-ghost use Rattle.std.specs.Prelude.{◌≡◌, ℕ, ◌+◌, ◌*◌, ◌<◌, ◌≤◌, length, take};
+ghost use Rattle.std.specs.Prelude.{◌≡◌, ℕ, ◌<◌, ◌≤◌, length, take};
+ghost use Rattle.methods.specs.Openings.{opening_asked};
 ghost use Rattle.methods.specs.Questions.{asked, question as asking, YesExactly};
 ghost use Rattle.methods.specs.SplitLaws.{split_lawful};
-ghost use Rattle.methods.specs.Splits.{first_from, first_length, second_from, split_row, split_own, split_says, SplitYes};
-ghost use Rattle.methods.specs.SplitsAsk.{SplitMade, half, in_turn};
-ghost use Rattle.rows.specs.Shapes.{opposite_of};
+ghost use Rattle.methods.specs.Splits.{split_row, split_own, split_says, SplitYes};
+ghost use Rattle.methods.specs.SplitsAsk.{SplitMade, halves};
 
-use crate::layer::{FirstByte, handed, room_test, with_fact};
+use crate::claim::Claim;
+use crate::layer::{FirstByte, ask_below, ask_with_fact, room_test};
 use crate::method::ProofMethod;
 use crate::opening::opening;
 use rows::bytes::{number_at, word_at};
 use rows::limits::COLUMNS;
 use rows::{Answer, Fault, FaultKind, Numbers, TooLarge, WrittenRow};
+use std::array::from_fn;
 
 // The certificate's first byte is 0 and the rest goes to the method below; or it is 1, and nine four-byte numbers of a
 // row, a two-byte length, the first certificate of that length and the second follow.
@@ -31,14 +33,9 @@ const FIRST_FROM: usize = 39;
 fn split_numbers(certificate: &[u8]) -> Numbers
     ensures { result ≡ split_row certificate.now }
 {
-    let mut coefficients = [0; COLUMNS];
-    for column in 0..COLUMNS {
-        coefficients[column] = number_at(certificate, NUMBERS_FROM + 4 * column);
-    }
-    let bound = number_at(certificate, NUMBERS_FROM + 4 * COLUMNS);
     Numbers {
-        coefficients,
-        bound,
+        coefficients: from_fn(|column| number_at(certificate, NUMBERS_FROM + 4 * column)),
+        bound: number_at(certificate, NUMBERS_FROM + 4 * COLUMNS),
     }
 }
 
@@ -59,75 +56,39 @@ fn split_row(certificate: &[u8]) -> Result<WrittenRow, Fault>
 }
 
 impl<M: ProofMethod> Split<M> {
-    // The answer below with the row as one more fact, by the first certificate, which ends where the second begins.
-    fn ask_first(
-        &self,
-        sheet: &mut [Numbers],
-        count: usize,
-        row: &WrittenRow,
-        goal: &Numbers,
-        certificate: &[u8],
-        second: usize,
-    ) -> Answer
-        requires within { count < length sheet.old }
-        requires parts { (first_from ≤ second) × (second ≤ length certificate.now) }
-        ensures answer { result ≡ half (M.ProofMethod.meaning self.now.below) first_from second row.now.numbers (asking (take count sheet.old) goal.now certificate.now (length sheet.old)) }
-        ensures kept { take count sheet.new ≡ take count sheet.old }
-    {
-        let fact = *row.numbers();
-        let part = &certificate[FIRST_FROM..second];
-        with_fact(&self.below, sheet, count, fact, goal, part, FIRST_FROM)
-    }
-
-    // The answer below with the row's opposite as one more fact, by the second certificate.
-    fn ask_second(
-        &self,
-        sheet: &mut [Numbers],
-        count: usize,
-        row: &WrittenRow,
-        goal: &Numbers,
-        certificate: &[u8],
-        second: usize,
-    ) -> Answer
-        requires within { count < length sheet.old }
-        requires part { second ≤ length certificate.now }
-        ensures answer { result ≡ half (M.ProofMethod.meaning self.now.below) second (length certificate.now) (opposite_of row.now.numbers) (asking (take count sheet.old) goal.now certificate.now (length sheet.old)) }
-        ensures kept { take count sheet.new ≡ take count sheet.old }
-    {
-        let fact = *row.opposite().numbers();
-        let part = &certificate[second..];
-        with_fact(&self.below, sheet, count, fact, goal, part, second)
-    }
-
-    // The first answer, and after a yes the second.
+    // The answer below with the row as one more fact, by the first certificate, which ends where the second begins; and
+    // after a yes the answer with the row's opposite, by the second.
     fn ask_both(
         &self,
         sheet: &mut [Numbers],
-        count: usize,
+        claim: Claim<'_>,
         row: &WrittenRow,
-        goal: &Numbers,
-        certificate: &[u8],
         second: usize,
     ) -> Answer
-        requires within { count < length sheet.old }
-        requires parts { (first_from ≤ second) × (second ≤ length certificate.now) }
-        ensures answer { result ≡ in_turn (half (M.ProofMethod.meaning self.now.below) first_from second row.now.numbers (asking (take count sheet.old) goal.now certificate.now (length sheet.old))) (half (M.ProofMethod.meaning self.now.below) second (length certificate.now) (opposite_of row.now.numbers) (asking (take count sheet.old) goal.now certificate.now (length sheet.old))) }
-        ensures kept { take count sheet.new ≡ take count sheet.old }
+        requires within { claim.count < length sheet.old }
+        requires parts { second ≤ length claim.certificate.now }
+        ensures answer { result ≡ halves (M.ProofMethod.meaning self.now.below) row.now.numbers second (asking (take claim.entry.count sheet.old) claim.entry.goal.now claim.entry.certificate.now (length sheet.old)) }
+        ensures kept { take claim.entry.count sheet.new ≡ take claim.entry.count sheet.old }
     {
-        self.ask_first(sheet, count, row, goal, certificate, second)?;
-        self.ask_second(sheet, count, row, goal, certificate, second)
+        let first = Claim {
+            certificate: &claim.certificate[..second],
+            ..claim
+        };
+        ask_with_fact(&self.below, sheet, first, *row.numbers(), FIRST_FROM)?;
+        ask_with_fact(&self.below, sheet, claim, *row.opposite().numbers(), second)
     }
 
     // The layer's own part of a question: the method below is asked with the row, and after a yes with its opposite.
-    fn own(&self, sheet: &mut [Numbers], count: usize, goal: &Numbers, certificate: &[u8]) -> Answer
-        requires { count ≤ length sheet.old }
-        ensures answer { result ≡ split_own (M.ProofMethod.meaning self.now.below) (asking (take count sheet.old) goal.now certificate.now (length sheet.old)) }
-        ensures kept { take count sheet.new ≡ take count sheet.old }
+    #[tactic(auto, using(crate::proofs::SplitAnswers::own_no_row, crate::proofs::SplitAnswers::own_both))]
+    fn own(&self, sheet: &mut [Numbers], claim: Claim<'_>) -> Answer
+        requires { Ok tt ≡ opening_asked claim.count sheet.old claim.goal.now }
+        ensures answer { result ≡ split_own (M.ProofMethod.meaning self.now.below) (asking (take claim.entry.count sheet.old) claim.entry.goal.now claim.entry.certificate.now (length sheet.old)) }
+        ensures kept { take claim.entry.count sheet.new ≡ take claim.entry.count sheet.old }
     {
-        room_test(count, sheet.len())?;
-        let row = split_row(certificate)?;
-        let second = FIRST_FROM + usize::from(word_at(certificate, LENGTH_FROM));
-        self.ask_both(sheet, count, &row, goal, certificate, second)
+        room_test(claim.count, sheet.len())?;
+        let row = split_row(claim.certificate)?;
+        let second = FIRST_FROM + usize::from(word_at(claim.certificate, LENGTH_FROM));
+        self.ask_both(sheet, claim, &row, second)
     }
 }
 
@@ -136,24 +97,15 @@ impl<M: ProofMethod> ProofMethod for Split<M> {
 
     ghost lawful = { λ m. split_lawful (M.ProofMethod.meaning m.below) (M.ProofMethod.lawful m.below) };
 
-    fn question(
-        &self,
-        sheet: &mut [Numbers],
-        count: usize,
-        goal: &Numbers,
-        certificate: &[u8],
-    ) -> Answer
-        ensures answer { result ≡ asked (split_says (M.ProofMethod.meaning self.now.below)) count sheet.old goal.now certificate.now }
-        ensures kept { take count sheet.new ≡ take count sheet.old }
-        ensures exactly { YesExactly result (SplitYes (M.ProofMethod.meaning self.now.below)) count sheet.old goal.now certificate.now }
+    fn question(&self, sheet: &mut [Numbers], claim: Claim<'_>) -> Answer
+        ensures answer { result ≡ asked (split_says (M.ProofMethod.meaning self.now.below)) claim.entry.count sheet.old claim.entry.goal.now claim.entry.certificate.now }
+        ensures kept { take claim.entry.count sheet.new ≡ take claim.entry.count sheet.old }
+        ensures exactly { YesExactly result (SplitYes (M.ProofMethod.meaning self.now.below)) claim.entry.count sheet.old claim.entry.goal.now claim.entry.certificate.now }
     {
-        if count > sheet.len() {
-            return Err(Fault::of(FaultKind::TooManyFacts));
-        }
-        opening(&sheet[0..count], goal)?;
-        match FirstByte::read(certificate)? {
-            FirstByte::HandDown => handed(&self.below, sheet, count, goal, &certificate[1..], 1),
-            FirstByte::Own => self.own(sheet, count, goal, certificate),
+        opening(claim, sheet)?;
+        match FirstByte::read(claim.certificate)? {
+            FirstByte::HandDown => ask_below(&self.below, sheet, claim, 1),
+            FirstByte::Own => self.own(sheet, claim),
         }
     }
 }

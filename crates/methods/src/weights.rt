@@ -1,46 +1,65 @@
-// Two-byte numbers of a certificate, and the weighted sum of facts.
-ghost use Rattle.std.specs.Prelude.{◌≡◌, ℕ, ◌+◌, ◌*◌, ◌<◌, ◌≤◌, length};
-ghost use Rattle.methods.specs.Weighing.{Weighable};
+// Two-byte numbers of a certificate, and the weighted sums of facts.
+ghost use Rattle.std.specs.Prelude.{◌≡◌, ℕ, ◌+◌, ◌*◌, ◌<◌, ◌≤◌, length, MatchResult};
+ghost use Rattle.methods.specs.Weighing.{Rows, Weighable};
 ghost use Rattle.methods.specs.Weights.{range_says, weights_say, weighted};
-ghost use Rattle.rows.specs.Limits.{items};
+ghost use Rattle.rows.specs.Bytes.{word_at};
+ghost use Rattle.std.proofs.Props.{props};
 
 use crate::limits::MOST_WEIGHT;
 use rows::bytes::word_at;
-use rows::{Answer, Fault, FaultKind, Numbers};
+use rows::{Fault, FaultKind, Numbers};
 
-// Whether the number there lies between `least` and the greatest multiplier.
-pub(crate) fn range_test(bytes: &[u8], at: usize, least: u16) -> Answer
-    ensures { result ≡ range_says least bytes.now at }
+// The number there, if it lies between `least` and the greatest multiplier.
+pub(crate) fn weight_at(bytes: &[u8], at: usize, least: u16) -> Result<u16, Fault>
+    ensures { MatchResult result (λ n. (Ok tt ≡ range_says least bytes.now at) × (n ≡ word_at bytes.now at)) (λ f. Err f ≡ range_says least bytes.now at) }
 {
     let number = word_at(bytes, at);
     if number < least || number > MOST_WEIGHT {
         return Err(Fault::at(FaultKind::MultiplierRange, at));
     }
-    Ok(())
+    Ok(number)
 }
 
-// Whether the multipliers from `at` on, one for each fact, are in range.
-pub(crate) fn weights_test(bytes: &[u8], at: usize, facts: &[Numbers]) -> Answer
-    requires { at + 2 * length facts.now ≤ length bytes.now }
-    ensures { result ≡ weights_say bytes.now at facts.now }
-{
-    for i in 0..facts.len() {
-        range_test(bytes, at + 2 * i, 0)?;
-    }
-    Ok(())
+// A few rows, and for each of them a multiplier in range, which stand in the certificate from an offset on: their sums
+// fit 64 bits.
+#[derive(Clone, Copy)]
+pub(crate) struct WeightedFacts<'a> {
+    facts: &'a [Numbers],
+    certificate: &'a [u8],
+    from: usize,
+    ghost weighable: { Weighable certificate.now from facts.now } by { Prim.hlevel props },
 }
 
-// The sum over the facts, in their order, of multiplier × the fact's number of an item.
-pub(crate) fn weighted_sum(bytes: &[u8], at: usize, facts: &[Numbers], item: usize) -> i64
-    requires facts { Weighable bytes.now at facts.now }
-    requires item { item < items }
-    ensures { result ≡ weighted item bytes.now at facts.now }
-{
-    let mut sum: i64 = 0;
-    for index in 0..facts.len() {
-        let weight = i64::from(word_at(bytes, at + 2 * index));
-        let number = facts[index].item(item);
-        sum += weight * number;
+impl<'a> WeightedFacts<'a> {
+    // The facts with their multipliers, if all of these are in range; the first that is not is the fault.
+    pub(crate) fn new(
+        facts: &'a [Numbers],
+        certificate: &'a [u8],
+        from: usize,
+    ) -> Result<WeightedFacts<'a>, Fault>
+        requires rows { Rows facts.now }
+        requires inside { from + 2 * length facts.now ≤ length certificate.now }
+        ensures { MatchResult result (λ w. (Ok tt ≡ weights_say certificate.now from facts.now) × (w.facts.now ≡ facts.now) × (w.certificate.now ≡ certificate.now) × (w.from ≡ from)) (λ f. Err f ≡ weights_say certificate.now from facts.now) }
+    {
+        for (index, _fact) in facts.iter().enumerate() {
+            weight_at(certificate, from + 2 * index, 0)?;
+        }
+        Ok(WeightedFacts {
+            facts,
+            certificate,
+            from,
+        })
     }
-    sum
+
+    // The sum over the facts, in their order, of multiplier × the fact's number of an item.
+    pub(crate) fn sum(&self, item: usize) -> i64
+        ensures { result ≡ weighted item self.now.certificate.now self.now.from self.now.facts.now }
+    {
+        let mut sum: i64 = 0;
+        for (index, fact) in self.facts.iter().enumerate() {
+            let weight = word_at(self.certificate, self.from + 2 * index);
+            sum += i64::from(weight) * fact.item(item);
+        }
+        sum
+    }
 }

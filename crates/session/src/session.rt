@@ -9,7 +9,7 @@ ghost use Rattle.commands.specs.Hex.{hex_bytes};
 
 use crate::stacks::named_stack;
 use commands::{Command, Hex, LineError, Reply, Stack, Success, parse};
-use methods::ProofMethod;
+use methods::{Claim, ProofMethod};
 use rows::limits::COLUMNS;
 use rows::{Answer, Numbers, Row};
 use std::alloc::{AllocError, Global};
@@ -78,8 +78,12 @@ impl Session {
         let bytes = certificate.bytes(heap)?;
         let mut sheet = self.sheet(heap)?;
         let method = named_stack(stack);
-        let count = self.facts.len();
-        Ok(method.question(&mut sheet, count, &self.goal, &bytes))
+        let claim = Claim {
+            count: self.facts.len(),
+            goal: &self.goal,
+            certificate: &bytes,
+        };
+        Ok(method.question(&mut sheet, claim))
     }
 
     // One more fact, behind the others, if there is room for it.

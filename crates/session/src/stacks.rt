@@ -3,7 +3,7 @@ ghost use Rattle.session.specs.Chosen.{base_says, base_lawful, layered_says, lay
 ghost use Rattle.std.specs.Prelude.{◌≡◌};
 
 use commands::{Base, Layer, Stack};
-use methods::{Cut, LookUp, Multipliers, ProofMethod, Split};
+use methods::{Claim, Cut, LookUp, Multipliers, ProofMethod, Split};
 use rows::{Answer, Numbers};
 
 // A method that stands alone.
@@ -18,16 +18,10 @@ impl ProofMethod for BaseMethod {
 
     ghost lawful = { base_lawful };
 
-    fn question(
-        &self,
-        sheet: &mut [Numbers],
-        count: usize,
-        goal: &Numbers,
-        certificate: &[u8],
-    ) -> Answer {
+    fn question(&self, sheet: &mut [Numbers], claim: Claim<'_>) -> Answer {
         match self {
-            BaseMethod::Multipliers(method) => method.question(sheet, count, goal, certificate),
-            BaseMethod::LookUp(method) => method.question(sheet, count, goal, certificate),
+            BaseMethod::Multipliers(method) => method.question(sheet, claim),
+            BaseMethod::LookUp(method) => method.question(sheet, claim),
         }
     }
 }
@@ -45,17 +39,11 @@ impl<M: ProofMethod> ProofMethod for Layered<M> {
 
     ghost lawful = { layered_lawful M.ProofMethod.meaning M.ProofMethod.lawful };
 
-    fn question(
-        &self,
-        sheet: &mut [Numbers],
-        count: usize,
-        goal: &Numbers,
-        certificate: &[u8],
-    ) -> Answer {
+    fn question(&self, sheet: &mut [Numbers], claim: Claim<'_>) -> Answer {
         match self {
-            Layered::Bare(method) => method.question(sheet, count, goal, certificate),
-            Layered::Cut(cut) => cut.question(sheet, count, goal, certificate),
-            Layered::Split(split) => split.question(sheet, count, goal, certificate),
+            Layered::Bare(method) => method.question(sheet, claim),
+            Layered::Cut(cut) => cut.question(sheet, claim),
+            Layered::Split(split) => split.question(sheet, claim),
         }
     }
 }

@@ -31,9 +31,7 @@ fn facts_and_rows(rt: HostRuntime) -> Result<(), Fail> {
             &rt,
             &LookUp,
             &mut sheet[0..rows],
-            count,
-            &first(1, 1),
-            &[],
+            claim(count, &first(1, 1), &[]),
             answer,
         )?;
     }
@@ -74,9 +72,7 @@ fn room_in_a_cut(rt: HostRuntime) -> Result<(), Fail> {
             &rt,
             &stack,
             &mut sheet[0..rows],
-            count,
-            &first(1, 1),
-            &bytes[0..end],
+            claim(count, &first(1, 1), &bytes[0..end]),
             answer,
         )?;
     }
@@ -93,9 +89,7 @@ fn room_in_a_split(rt: HostRuntime) -> Result<(), Fail> {
             &rt,
             &stack,
             &mut sheet[0..rows],
-            count,
-            &first(1, 1),
-            &split_by(0, 7),
+            claim(count, &first(1, 1), &split_by(0, 7)),
             answer,
         )?;
     }
@@ -107,7 +101,13 @@ fn room_in_a_split(rt: HostRuntime) -> Result<(), Fail> {
 fn no_room_to_hand_down(rt: HostRuntime) -> Result<(), Fail> {
     let mut sheet = [first(1, 1); 32];
     let cut = Cut { below: LookUp };
-    expect(&rt, &cut, &mut sheet, 32, &first(1, 1), &[0], Ok(()))?;
+    expect(&rt, &cut, &mut sheet, claim(32, &first(1, 1), &[0]), Ok(()))?;
     let split = Split { below: LookUp };
-    expect(&rt, &split, &mut sheet, 32, &first(1, 1), &[0], Ok(()))
+    expect(
+        &rt,
+        &split,
+        &mut sheet,
+        claim(32, &first(1, 1), &[0]),
+        Ok(()),
+    )
 }

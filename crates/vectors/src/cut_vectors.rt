@@ -65,9 +65,7 @@ fn divisors_in_range(rt: HostRuntime) -> Result<(), Fail> {
             &rt,
             &cut(),
             &mut sheet,
-            1,
-            &goal,
-            &cut_by(divisor, weight),
+            claim(1, &goal, &cut_by(divisor, weight)),
             answer,
         )?;
     }
@@ -97,9 +95,7 @@ fn rounded_down(rt: HostRuntime) -> Result<(), Fail> {
             &rt,
             &cut(),
             &mut sheet,
-            1,
-            &first(1, goal),
-            &cut_by(2, 1),
+            claim(1, &first(1, goal), &cut_by(2, 1)),
             answer,
         )?;
     }
@@ -116,29 +112,29 @@ fn lengths(rt: HostRuntime) -> Result<(), Fail> {
         &rt,
         &cut(),
         &mut sheet,
-        1,
-        &goal,
-        &bytes[0..4],
+        claim(1, &goal, &bytes[0..4]),
         fault(FaultKind::CertificateLength, 0, 0, 0),
     )?;
-    expect(&rt, &cut(), &mut sheet, 1, &goal, &bytes[0..5], Ok(()))?;
     expect(
         &rt,
         &cut(),
         &mut sheet,
-        1,
-        &goal,
-        &bytes[0..6],
+        claim(1, &goal, &bytes[0..5]),
+        Ok(()),
+    )?;
+    expect(
+        &rt,
+        &cut(),
+        &mut sheet,
+        claim(1, &goal, &bytes[0..6]),
         fault(FaultKind::CertificateLength, 5, 1, 0),
     )?;
-    expect(&rt, &cut(), &mut sheet, 1, &goal, &[0], Ok(()))?;
+    expect(&rt, &cut(), &mut sheet, claim(1, &goal, &[0]), Ok(()))?;
     expect(
         &rt,
         &cut(),
         &mut sheet,
-        1,
-        &goal,
-        &[0, 0],
+        claim(1, &goal, &[0, 0]),
         fault(FaultKind::CertificateLength, 1, 1, 0),
     )
 }
@@ -159,16 +155,20 @@ fn first_bytes() -> [(u8, Answer); 5] {
 fn first_byte(rt: HostRuntime) -> Result<(), Fail> {
     for (byte, answer) in first_bytes() {
         let mut sheet = [first(1, 1); 2];
-        expect(&rt, &cut(), &mut sheet, 1, &first(1, 1), &[byte], answer)?;
+        expect(
+            &rt,
+            &cut(),
+            &mut sheet,
+            claim(1, &first(1, 1), &[byte]),
+            answer,
+        )?;
     }
     let mut sheet = [first(1, 1); 2];
     expect(
         &rt,
         &cut(),
         &mut sheet,
-        1,
-        &first(1, 1),
-        &[],
+        claim(1, &first(1, 1), &[]),
         fault(FaultKind::CertificateLength, 0, 0, 0),
     )
 }
@@ -183,9 +183,7 @@ fn divided_row_at_its_limit(rt: HostRuntime) -> Result<(), Fail> {
                 &rt,
                 &cut(),
                 &mut sheet,
-                1,
-                &only(item, number),
-                &cut_by(1, 1),
+                claim(1, &only(item, number), &cut_by(1, 1)),
                 Ok(()),
             )?;
         }
@@ -203,9 +201,7 @@ fn divided_row_beyond_its_limit(rt: HostRuntime) -> Result<(), Fail> {
                 &rt,
                 &cut(),
                 &mut sheet,
-                2,
-                &first(0, 0),
-                &bytes,
+                claim(2, &first(0, 0), &bytes),
                 fault(FaultKind::LayerRowTooLarge, 0, 0, item as u8),
             )?;
         }
@@ -222,9 +218,7 @@ fn indivisible_column(rt: HostRuntime) -> Result<(), Fail> {
             &rt,
             &cut(),
             &mut sheet,
-            1,
-            &first(0, 0),
-            &cut_by(2, 1),
+            claim(1, &first(0, 0), &cut_by(2, 1)),
             fault(FaultKind::ColumnDiffers, 0, 0, item as u8),
         )?;
     }
@@ -243,63 +237,49 @@ fn earlier_fault_wins(rt: HostRuntime) -> Result<(), Fail> {
         &rt,
         &cut(),
         &mut sheet,
-        33,
-        &goal,
-        &[],
+        claim(33, &goal, &[]),
         fault(FaultKind::TooManyFacts, 0, 0, 0),
     )?;
     expect(
         &rt,
         &cut(),
         &mut sheet,
-        1,
-        &only(2, over),
-        &[],
+        claim(1, &only(2, over), &[]),
         fault(FaultKind::RowNumberTooLarge, 0, 0, 3),
     )?;
     expect(
         &rt,
         &cut(),
         &mut sheet,
-        0,
-        &only(2, over),
-        &[],
+        claim(0, &only(2, over), &[]),
         fault(FaultKind::RowNumberTooLarge, 0, 0, 2),
     )?;
     expect(
         &rt,
         &cut(),
         &mut sheet,
-        0,
-        &only(2, over),
-        &[2],
+        claim(0, &only(2, over), &[2]),
         fault(FaultKind::RowNumberTooLarge, 0, 0, 2),
     )?;
     expect(
         &rt,
         &cut(),
         &mut none,
-        0,
-        &goal,
-        &[2],
+        claim(0, &goal, &[2]),
         fault(FaultKind::LayerByte, 0, 0, 0),
     )?;
     expect(
         &rt,
         &cut(),
         &mut none,
-        0,
-        &goal,
-        &[1],
+        claim(0, &goal, &[1]),
         fault(FaultKind::NoRoomForFact, 0, 0, 0),
     )?;
     expect(
         &rt,
         &cut(),
         &mut free,
-        0,
-        &goal,
-        &[1, 0],
+        claim(0, &goal, &[1, 0]),
         fault(FaultKind::CertificateLength, 0, 0, 0),
     )
 }
@@ -309,23 +289,25 @@ fn earlier_fault_wins_among_numbers(rt: HostRuntime) -> Result<(), Fail> {
     let mut sheet = [first(1, 1); 4];
     let goal = first(1, 1);
     let length = fault(FaultKind::CertificateLength, 0, 0, 0);
-    expect(&rt, &cut(), &mut sheet, 1, &goal, &[1, 0, 0, 255], length)?;
     expect(
         &rt,
         &cut(),
         &mut sheet,
-        1,
-        &goal,
-        &cut_by(0, 10_001),
+        claim(1, &goal, &[1, 0, 0, 255]),
+        length,
+    )?;
+    expect(
+        &rt,
+        &cut(),
+        &mut sheet,
+        claim(1, &goal, &cut_by(0, 10_001)),
         fault(FaultKind::MultiplierRange, 1, 0, 0),
     )?;
     expect(
         &rt,
         &cut(),
         &mut sheet,
-        1,
-        &goal,
-        &cut_by(2, 10_001),
+        claim(1, &goal, &cut_by(2, 10_001)),
         fault(FaultKind::MultiplierRange, 3, 0, 0),
     )?;
     let third = [1, 0, 2, 0, 1, 255, 255];
@@ -333,9 +315,7 @@ fn earlier_fault_wins_among_numbers(rt: HostRuntime) -> Result<(), Fail> {
         &rt,
         &cut(),
         &mut sheet,
-        2,
-        &goal,
-        &third,
+        claim(2, &goal, &third),
         fault(FaultKind::MultiplierRange, 5, 0, 0),
     )?;
     let mut wide = [only(0, ROW_LIMIT), only(4, 1), first(0, 0)];
@@ -344,9 +324,7 @@ fn earlier_fault_wins_among_numbers(rt: HostRuntime) -> Result<(), Fail> {
         &rt,
         &cut(),
         &mut wide,
-        2,
-        &goal,
-        &both,
+        claim(2, &goal, &both),
         fault(FaultKind::ColumnDiffers, 0, 0, 4),
     )?;
     let large = [1, 0, 2, 0, 4, 0, 2, 9];
@@ -354,9 +332,7 @@ fn earlier_fault_wins_among_numbers(rt: HostRuntime) -> Result<(), Fail> {
         &rt,
         &cut(),
         &mut wide,
-        2,
-        &goal,
-        &large,
+        claim(2, &goal, &large),
         fault(FaultKind::LayerRowTooLarge, 0, 0, 0),
     )
 }

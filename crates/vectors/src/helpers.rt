@@ -1,5 +1,5 @@
 // What the vectors are built of.
-use methods::{ProofMethod, ask};
+use methods::{Claim, ProofMethod, ask};
 use rows::limits::{COLUMNS, ITEMS};
 use rows::{Answer, Fault, FaultKind, Numbers};
 use std::process::Abort;
@@ -56,16 +56,23 @@ pub fn split_by(item: usize, number: i32) -> [u8; 39] {
     bytes
 }
 
+// That the goal follows from the first facts of a sheet, as the certificate shows.
+pub fn claim<'a>(count: usize, goal: &'a Numbers, certificate: &'a [u8]) -> Claim<'a> {
+    Claim {
+        count,
+        goal,
+        certificate,
+    }
+}
+
 // The question has this answer.
 pub fn expect<M: ProofMethod>(
     rt: &impl Abort,
     method: &M,
     sheet: &mut [Numbers],
-    count: usize,
-    goal: &Numbers,
-    certificate: &[u8],
+    claim: Claim<'_>,
     answer: Answer,
 ) -> Result<(), Fail> {
-    assert_eq!(rt; ask(method, sheet, count, goal, certificate), answer);
+    assert_eq!(rt; ask(method, sheet, claim), answer);
     Ok(())
 }

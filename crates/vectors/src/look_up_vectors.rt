@@ -22,7 +22,7 @@ fn goals() -> [(Numbers, Answer); 6] {
 fn found(rt: HostRuntime) -> Result<(), Fail> {
     for (goal, answer) in goals() {
         let mut sheet = [first(2, 3); 2];
-        expect(&rt, &LookUp, &mut sheet, 1, &goal, &[], answer)?;
+        expect(&rt, &LookUp, &mut sheet, claim(1, &goal, &[]), answer)?;
     }
     Ok(())
 }
@@ -36,9 +36,7 @@ fn every_item_counts(rt: HostRuntime) -> Result<(), Fail> {
             &rt,
             &LookUp,
             &mut sheet,
-            1,
-            &only(item, -1),
-            &[],
+            claim(1, &only(item, -1), &[]),
             fault(FaultKind::BoundNotShown, 0, 0, 8),
         )?;
     }
@@ -53,45 +51,35 @@ fn earlier_fault_wins(rt: HostRuntime) -> Result<(), Fail> {
         &rt,
         &LookUp,
         &mut sheet,
-        33,
-        &first(1, 1),
-        &[1],
+        claim(33, &first(1, 1), &[1]),
         fault(FaultKind::TooManyFacts, 0, 0, 0),
     )?;
     expect(
         &rt,
         &LookUp,
         &mut sheet,
-        41,
-        &first(1, 1),
-        &[1],
+        claim(41, &first(1, 1), &[1]),
         fault(FaultKind::TooManyFacts, 0, 0, 0),
     )?;
     expect(
         &rt,
         &LookUp,
         &mut sheet,
-        1,
-        &only(2, over),
-        &[1],
+        claim(1, &only(2, over), &[1]),
         fault(FaultKind::RowNumberTooLarge, 0, 0, 3),
     )?;
     expect(
         &rt,
         &LookUp,
         &mut sheet,
-        0,
-        &only(2, over),
-        &[1],
+        claim(0, &only(2, over), &[1]),
         fault(FaultKind::RowNumberTooLarge, 0, 0, 2),
     )?;
     expect(
         &rt,
         &LookUp,
         &mut sheet,
-        0,
-        &first(1, 1),
-        &[1],
+        claim(0, &first(1, 1), &[1]),
         fault(FaultKind::CertificateLength, 0, 0, 0),
     )
 }

@@ -29,9 +29,7 @@ fn multipliers_in_range(rt: HostRuntime) -> Result<(), Fail> {
             &rt,
             &Multipliers,
             &mut sheet,
-            1,
-            &first(1, 1),
-            &two_words(goal_weight, weight),
+            claim(1, &first(1, 1), &two_words(goal_weight, weight)),
             answer,
         )?;
     }
@@ -45,18 +43,34 @@ fn lengths(rt: HostRuntime) -> Result<(), Fail> {
     let bytes = [0, 1, 0, 1, 0];
     let goal = first(1, 1);
     let short = fault(FaultKind::CertificateLength, 0, 0, 0);
-    expect(&rt, &Multipliers, &mut sheet, 1, &goal, &bytes[0..3], short)?;
     expect(
         &rt,
         &Multipliers,
         &mut sheet,
-        1,
-        &goal,
-        &bytes[0..4],
+        claim(1, &goal, &bytes[0..3]),
+        short,
+    )?;
+    expect(
+        &rt,
+        &Multipliers,
+        &mut sheet,
+        claim(1, &goal, &bytes[0..4]),
         Ok(()),
     )?;
-    expect(&rt, &Multipliers, &mut sheet, 1, &goal, &bytes[0..5], short)?;
-    expect(&rt, &Multipliers, &mut sheet, 1, &goal, &bytes[0..0], short)
+    expect(
+        &rt,
+        &Multipliers,
+        &mut sheet,
+        claim(1, &goal, &bytes[0..5]),
+        short,
+    )?;
+    expect(
+        &rt,
+        &Multipliers,
+        &mut sheet,
+        claim(1, &goal, &bytes[0..0]),
+        short,
+    )
 }
 
 // Of two faults the one that is tested first is told.
@@ -66,21 +80,25 @@ fn earlier_fault_wins(rt: HostRuntime) -> Result<(), Fail> {
     let over = ROW_LIMIT + 1;
     let mut sheet = [only(3, over); 40];
     let facts = fault(FaultKind::TooManyFacts, 0, 0, 0);
-    expect(&rt, &Multipliers, &mut sheet, 33, &goal, &[], facts)?;
-    expect(&rt, &Multipliers, &mut sheet, 41, &goal, &[], facts)?;
+    expect(&rt, &Multipliers, &mut sheet, claim(33, &goal, &[]), facts)?;
+    expect(&rt, &Multipliers, &mut sheet, claim(41, &goal, &[]), facts)?;
     let fact = fault(FaultKind::RowNumberTooLarge, 0, 0, 3);
-    expect(&rt, &Multipliers, &mut sheet, 1, &only(2, over), &[], fact)?;
+    expect(
+        &rt,
+        &Multipliers,
+        &mut sheet,
+        claim(1, &only(2, over), &[]),
+        fact,
+    )?;
     sheet[0] = only(5, over);
     let other = fault(FaultKind::RowNumberTooLarge, 0, 0, 5);
-    expect(&rt, &Multipliers, &mut sheet, 2, &goal, &[], other)?;
+    expect(&rt, &Multipliers, &mut sheet, claim(2, &goal, &[]), other)?;
     let goal_fault = fault(FaultKind::RowNumberTooLarge, 0, 0, 2);
     expect(
         &rt,
         &Multipliers,
         &mut sheet,
-        0,
-        &only(2, over),
-        &[],
+        claim(0, &only(2, over), &[]),
         goal_fault,
     )
 }
@@ -93,9 +111,7 @@ fn earlier_fault_wins_among_numbers(rt: HostRuntime) -> Result<(), Fail> {
         &rt,
         &Multipliers,
         &mut sheet,
-        1,
-        &first(1, 1),
-        &[0, 0],
+        claim(1, &first(1, 1), &[0, 0]),
         length,
     )?;
     let second = fault(FaultKind::MultiplierRange, 2, 0, 0);
@@ -103,9 +119,7 @@ fn earlier_fault_wins_among_numbers(rt: HostRuntime) -> Result<(), Fail> {
         &rt,
         &Multipliers,
         &mut sheet,
-        2,
-        &first(1, 1),
-        &[0, 1, 255, 255, 255, 255],
+        claim(2, &first(1, 1), &[0, 1, 255, 255, 255, 255]),
         second,
     )?;
     let third = fault(FaultKind::MultiplierRange, 4, 0, 0);
@@ -113,9 +127,7 @@ fn earlier_fault_wins_among_numbers(rt: HostRuntime) -> Result<(), Fail> {
         &rt,
         &Multipliers,
         &mut sheet,
-        2,
-        &first(9, 0),
-        &[0, 1, 0, 1, 255, 255],
+        claim(2, &first(9, 0), &[0, 1, 0, 1, 255, 255]),
         third,
     )?;
     let column = fault(FaultKind::ColumnDiffers, 0, 0, 0);
@@ -123,9 +135,7 @@ fn earlier_fault_wins_among_numbers(rt: HostRuntime) -> Result<(), Fail> {
         &rt,
         &Multipliers,
         &mut sheet,
-        1,
-        &first(2, 0),
-        &[0, 1, 0, 1],
+        claim(1, &first(2, 0), &[0, 1, 0, 1]),
         column,
     )?;
     let bound = fault(FaultKind::BoundNotShown, 0, 0, 8);
@@ -133,9 +143,7 @@ fn earlier_fault_wins_among_numbers(rt: HostRuntime) -> Result<(), Fail> {
         &rt,
         &Multipliers,
         &mut sheet,
-        1,
-        &first(1, 0),
-        &[0, 1, 0, 1],
+        claim(1, &first(1, 0), &[0, 1, 0, 1]),
         bound,
     )?;
     let mut goal = only(5, 1);
@@ -144,9 +152,7 @@ fn earlier_fault_wins_among_numbers(rt: HostRuntime) -> Result<(), Fail> {
         &rt,
         &Multipliers,
         &mut sheet,
-        0,
-        &goal,
-        &[0, 1],
+        claim(0, &goal, &[0, 1]),
         fault(FaultKind::ColumnDiffers, 0, 0, 2),
     )
 }
@@ -169,36 +175,28 @@ fn greatest_sums(rt: HostRuntime) -> Result<(), Fail> {
         &rt,
         &Multipliers,
         &mut high_bounds,
-        32,
-        &goal,
-        &bytes,
+        claim(32, &goal, &bytes),
         fault(FaultKind::BoundNotShown, 0, 0, 8),
     )?;
     expect(
         &rt,
         &Multipliers,
         &mut low_bounds,
-        32,
-        &goal,
-        &bytes,
+        claim(32, &goal, &bytes),
         Ok(()),
     )?;
     expect(
         &rt,
         &Multipliers,
         &mut high_columns,
-        32,
-        &goal,
-        &bytes,
+        claim(32, &goal, &bytes),
         fault(FaultKind::ColumnDiffers, 0, 0, 7),
     )?;
     expect(
         &rt,
         &Multipliers,
         &mut low_columns,
-        32,
-        &goal,
-        &bytes,
+        claim(32, &goal, &bytes),
         fault(FaultKind::ColumnDiffers, 0, 0, 7),
     )
 }

@@ -19,9 +19,7 @@ fn row_at_its_limit(rt: HostRuntime) -> Result<(), Fail> {
                 &rt,
                 &split(),
                 &mut sheet,
-                1,
-                &first(1, 1),
-                &split_by(item, number),
+                claim(1, &first(1, 1), &split_by(item, number)),
                 Ok(()),
             )?;
         }
@@ -39,9 +37,7 @@ fn row_beyond_its_limit(rt: HostRuntime) -> Result<(), Fail> {
                 &rt,
                 &split(),
                 &mut sheet,
-                1,
-                &first(1, 1),
-                &split_by(item, number),
+                claim(1, &first(1, 1), &split_by(item, number)),
                 fault(FaultKind::LayerRowTooLarge, 1 + 4 * item, 0, item as u8),
             )?;
         }
@@ -60,19 +56,21 @@ fn lengths(rt: HostRuntime) -> Result<(), Fail> {
         &rt,
         &split(),
         &mut sheet,
-        1,
-        &goal,
-        &bytes[0..38],
+        claim(1, &goal, &bytes[0..38]),
         fault(FaultKind::CertificateLength, 0, 0, 0),
     )?;
-    expect(&rt, &split(), &mut sheet, 1, &goal, &bytes[0..39], Ok(()))?;
     expect(
         &rt,
         &split(),
         &mut sheet,
-        1,
-        &goal,
-        &bytes[0..40],
+        claim(1, &goal, &bytes[0..39]),
+        Ok(()),
+    )?;
+    expect(
+        &rt,
+        &split(),
+        &mut sheet,
+        claim(1, &goal, &bytes[0..40]),
         fault(FaultKind::CertificateLength, 39, 1, 0),
     )?;
     bytes[38] = 1;
@@ -80,18 +78,14 @@ fn lengths(rt: HostRuntime) -> Result<(), Fail> {
         &rt,
         &split(),
         &mut sheet,
-        1,
-        &goal,
-        &bytes[0..39],
+        claim(1, &goal, &bytes[0..39]),
         fault(FaultKind::CertificateLength, 0, 0, 0),
     )?;
     expect(
         &rt,
         &split(),
         &mut sheet,
-        1,
-        &goal,
-        &bytes[0..40],
+        claim(1, &goal, &bytes[0..40]),
         fault(FaultKind::CertificateLength, 39, 1, 0),
     )?;
     bytes[37] = 255;
@@ -99,19 +93,15 @@ fn lengths(rt: HostRuntime) -> Result<(), Fail> {
         &rt,
         &split(),
         &mut sheet,
-        1,
-        &goal,
-        &bytes,
+        claim(1, &goal, &bytes),
         fault(FaultKind::CertificateLength, 0, 0, 0),
     )?;
-    expect(&rt, &split(), &mut sheet, 1, &goal, &[0], Ok(()))?;
+    expect(&rt, &split(), &mut sheet, claim(1, &goal, &[0]), Ok(()))?;
     expect(
         &rt,
         &split(),
         &mut sheet,
-        1,
-        &goal,
-        &[0, 0],
+        claim(1, &goal, &[0, 0]),
         fault(FaultKind::CertificateLength, 1, 1, 0),
     )
 }
@@ -132,16 +122,20 @@ fn first_bytes() -> [(u8, Answer); 5] {
 fn first_byte(rt: HostRuntime) -> Result<(), Fail> {
     for (byte, answer) in first_bytes() {
         let mut sheet = [first(1, 1); 2];
-        expect(&rt, &split(), &mut sheet, 1, &first(1, 1), &[byte], answer)?;
+        expect(
+            &rt,
+            &split(),
+            &mut sheet,
+            claim(1, &first(1, 1), &[byte]),
+            answer,
+        )?;
     }
     let mut sheet = [first(1, 1); 2];
     expect(
         &rt,
         &split(),
         &mut sheet,
-        1,
-        &first(1, 1),
-        &[],
+        claim(1, &first(1, 1), &[]),
         fault(FaultKind::CertificateLength, 0, 0, 0),
     )
 }
@@ -166,9 +160,7 @@ fn one_case_is_not_enough(rt: HostRuntime) -> Result<(), Fail> {
             &rt,
             &split(),
             &mut sheet,
-            1,
-            &goal,
-            &split_by(0, number),
+            claim(1, &goal, &split_by(0, number)),
             answer,
         )?;
     }
@@ -188,15 +180,19 @@ fn both_cases(rt: HostRuntime) -> Result<(), Fail> {
     bytes[44] = 1;
     bytes[46] = 1;
     bytes[48] = 1;
-    expect(&rt, &stack, &mut sheet, 1, &first(1, 1), &bytes, Ok(()))?;
+    expect(
+        &rt,
+        &stack,
+        &mut sheet,
+        claim(1, &first(1, 1), &bytes),
+        Ok(()),
+    )?;
     bytes[48] = 2;
     expect(
         &rt,
         &stack,
         &mut sheet,
-        1,
-        &first(1, 1),
-        &bytes,
+        claim(1, &first(1, 1), &bytes),
         fault(FaultKind::ColumnDiffers, 45, 1, 0),
     )?;
     bytes[49] = 255;
@@ -204,9 +200,7 @@ fn both_cases(rt: HostRuntime) -> Result<(), Fail> {
         &rt,
         &stack,
         &mut sheet,
-        1,
-        &first(1, 1),
-        &bytes,
+        claim(1, &first(1, 1), &bytes),
         fault(FaultKind::MultiplierRange, 49, 1, 0),
     )?;
     bytes[43] = 255;
@@ -214,9 +208,7 @@ fn both_cases(rt: HostRuntime) -> Result<(), Fail> {
         &rt,
         &stack,
         &mut sheet,
-        1,
-        &first(1, 1),
-        &bytes,
+        claim(1, &first(1, 1), &bytes),
         fault(FaultKind::MultiplierRange, 43, 1, 0),
     )
 }
@@ -232,54 +224,42 @@ fn earlier_fault_wins(rt: HostRuntime) -> Result<(), Fail> {
         &rt,
         &split(),
         &mut sheet,
-        33,
-        &goal,
-        &[],
+        claim(33, &goal, &[]),
         fault(FaultKind::TooManyFacts, 0, 0, 0),
     )?;
     expect(
         &rt,
         &split(),
         &mut sheet,
-        1,
-        &only(2, over),
-        &[],
+        claim(1, &only(2, over), &[]),
         fault(FaultKind::RowNumberTooLarge, 0, 0, 3),
     )?;
     expect(
         &rt,
         &split(),
         &mut sheet,
-        0,
-        &only(2, over),
-        &[],
+        claim(0, &only(2, over), &[]),
         fault(FaultKind::RowNumberTooLarge, 0, 0, 2),
     )?;
     expect(
         &rt,
         &split(),
         &mut sheet,
-        0,
-        &only(2, over),
-        &[2],
+        claim(0, &only(2, over), &[2]),
         fault(FaultKind::RowNumberTooLarge, 0, 0, 2),
     )?;
     expect(
         &rt,
         &split(),
         &mut none,
-        0,
-        &goal,
-        &[2],
+        claim(0, &goal, &[2]),
         fault(FaultKind::LayerByte, 0, 0, 0),
     )?;
     expect(
         &rt,
         &split(),
         &mut none,
-        0,
-        &goal,
-        &[1],
+        claim(0, &goal, &[1]),
         fault(FaultKind::NoRoomForFact, 0, 0, 0),
     )
 }
@@ -293,9 +273,7 @@ fn earlier_fault_wins_among_numbers(rt: HostRuntime) -> Result<(), Fail> {
         &rt,
         &split(),
         &mut sheet,
-        1,
-        &goal,
-        &large[0..38],
+        claim(1, &goal, &large[0..38]),
         fault(FaultKind::CertificateLength, 0, 0, 0),
     )?;
     let mut two = split_by(2, 1_000_001);
@@ -304,18 +282,14 @@ fn earlier_fault_wins_among_numbers(rt: HostRuntime) -> Result<(), Fail> {
         &rt,
         &split(),
         &mut sheet,
-        1,
-        &goal,
-        &two,
+        claim(1, &goal, &two),
         fault(FaultKind::LayerRowTooLarge, 9, 0, 2),
     )?;
     expect(
         &rt,
         &split(),
         &mut sheet,
-        1,
-        &first(1, 0),
-        &large,
+        claim(1, &first(1, 0), &large),
         fault(FaultKind::LayerRowTooLarge, 9, 0, 2),
     )?;
     let mut parts = [0; 41];
@@ -325,9 +299,7 @@ fn earlier_fault_wins_among_numbers(rt: HostRuntime) -> Result<(), Fail> {
         &rt,
         &split(),
         &mut sheet,
-        1,
-        &goal,
-        &parts,
+        claim(1, &goal, &parts),
         fault(FaultKind::CertificateLength, 39, 1, 0),
     )
 }

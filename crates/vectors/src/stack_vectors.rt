@@ -17,59 +17,53 @@ fn stack() -> Split<Cut<Split<LookUp>>> {
 fn handed_down(rt: HostRuntime) -> Result<(), Fail> {
     let mut sheet = [first(1, 1); 1];
     let goal = first(1, 1);
-    expect(&rt, &stack(), &mut sheet, 1, &goal, &[0, 0, 0], Ok(()))?;
     expect(
         &rt,
         &stack(),
         &mut sheet,
-        1,
-        &first(1, 0),
-        &[0, 0, 0],
+        claim(1, &goal, &[0, 0, 0]),
+        Ok(()),
+    )?;
+    expect(
+        &rt,
+        &stack(),
+        &mut sheet,
+        claim(1, &first(1, 0), &[0, 0, 0]),
         fault(FaultKind::BoundNotShown, 3, 3, 8),
     )?;
     expect(
         &rt,
         &stack(),
         &mut sheet,
-        1,
-        &goal,
-        &[0, 0, 0, 0],
+        claim(1, &goal, &[0, 0, 0, 0]),
         fault(FaultKind::CertificateLength, 3, 3, 0),
     )?;
     expect(
         &rt,
         &stack(),
         &mut sheet,
-        1,
-        &goal,
-        &[0, 0, 2],
+        claim(1, &goal, &[0, 0, 2]),
         fault(FaultKind::LayerByte, 2, 2, 0),
     )?;
     expect(
         &rt,
         &stack(),
         &mut sheet,
-        1,
-        &goal,
-        &[0, 2],
+        claim(1, &goal, &[0, 2]),
         fault(FaultKind::LayerByte, 1, 1, 0),
     )?;
     expect(
         &rt,
         &stack(),
         &mut sheet,
-        1,
-        &goal,
-        &[0, 0],
+        claim(1, &goal, &[0, 0]),
         fault(FaultKind::CertificateLength, 2, 2, 0),
     )?;
     expect(
         &rt,
         &stack(),
         &mut sheet,
-        1,
-        &goal,
-        &[2],
+        claim(1, &goal, &[2]),
         fault(FaultKind::LayerByte, 0, 0, 0),
     )
 }
@@ -92,36 +86,28 @@ fn facts_added_in_each_layer(rt: HostRuntime) -> Result<(), Fail> {
         &rt,
         &stack(),
         &mut sheet,
-        1,
-        &goal,
-        &bytes,
+        claim(1, &goal, &bytes),
         fault(FaultKind::CertificateLength, 85, 3, 0),
     )?;
     expect(
         &rt,
         &stack(),
         &mut three,
-        1,
-        &goal,
-        &bytes,
+        claim(1, &goal, &bytes),
         fault(FaultKind::NoRoomForFact, 46, 2, 0),
     )?;
     expect(
         &rt,
         &stack(),
         &mut two,
-        1,
-        &goal,
-        &bytes,
+        claim(1, &goal, &bytes),
         fault(FaultKind::NoRoomForFact, 39, 1, 0),
     )?;
     expect(
         &rt,
         &stack(),
         &mut one,
-        1,
-        &goal,
-        &bytes,
+        claim(1, &goal, &bytes),
         fault(FaultKind::NoRoomForFact, 0, 0, 0),
     )?;
     bytes[43] = 1;
@@ -130,9 +116,7 @@ fn facts_added_in_each_layer(rt: HostRuntime) -> Result<(), Fail> {
         &rt,
         &stack(),
         &mut sheet,
-        1,
-        &goal,
-        &bytes,
+        claim(1, &goal, &bytes),
         fault(FaultKind::MultiplierRange, 42, 1, 0),
     )
 }
@@ -145,23 +129,25 @@ fn second_certificate(rt: HostRuntime) -> Result<(), Fail> {
     let mut bytes = [0; 44];
     bytes[0] = 1;
     bytes[38] = 2;
-    expect(&rt, &stack(), &mut sheet, 1, &goal, &bytes[0..43], Ok(()))?;
     expect(
         &rt,
         &stack(),
         &mut sheet,
-        1,
-        &goal,
-        &bytes,
+        claim(1, &goal, &bytes[0..43]),
+        Ok(()),
+    )?;
+    expect(
+        &rt,
+        &stack(),
+        &mut sheet,
+        claim(1, &goal, &bytes),
         fault(FaultKind::CertificateLength, 43, 3, 0),
     )?;
     expect(
         &rt,
         &stack(),
         &mut sheet,
-        1,
-        &first(1, 0),
-        &bytes,
+        claim(1, &first(1, 0), &bytes),
         fault(FaultKind::BoundNotShown, 41, 3, 8),
     )
 }
@@ -180,9 +166,7 @@ fn item_kept(rt: HostRuntime) -> Result<(), Fail> {
         &rt,
         &cut,
         &mut sheet,
-        1,
-        &first(1, 1),
-        &bytes,
+        claim(1, &first(1, 1), &bytes),
         fault(FaultKind::LayerRowTooLarge, 22, 1, 5),
     )?;
     let low = [0, 0, 0, 1, 0, 2];
@@ -190,9 +174,7 @@ fn item_kept(rt: HostRuntime) -> Result<(), Fail> {
         &rt,
         &cut,
         &mut sheet,
-        1,
-        &first(1, 1),
-        &low,
+        claim(1, &first(1, 1), &low),
         fault(FaultKind::ColumnDiffers, 2, 2, 0),
     )?;
     let wide = [0, 0, 0, 1, 255, 0];
@@ -200,9 +182,7 @@ fn item_kept(rt: HostRuntime) -> Result<(), Fail> {
         &rt,
         &cut,
         &mut sheet,
-        1,
-        &first(1, 1),
-        &wide,
+        claim(1, &first(1, 1), &wide),
         fault(FaultKind::MultiplierRange, 4, 2, 0),
     )
 }

@@ -1,11 +1,8 @@
-use Rattle.methods.proofs.Listed.{listed_here, listed_more, listed_none}
+use Rattle.std.proofs.Common.{rules, tests}
+use Rattle.std.proofs.lemmas.Iterator.{YieldsList-from_slice}
+use Rattle.std.proofs.lemmas.Iterator.Search.{any_from_yields_List}
+use Rattle.methods.specs.LooksUp.{covers}
 use Rattle.methods.proofs.look_up.listed.Goals as goal
 
-pub returns-then-covers : goal.returns-then-covers
-returns-then-covers c = listed_here _ _ _ c.loop-fact.invariant _ c.loop-fact-test.true c.if-covers.ensures
-
-pub loop-fact-preserved : goal.loop-fact-preserved
-loop-fact-preserved c = listed_more _ _ _ c.loop-fact.invariant _ c.loop-fact-test.true c.if-covers.ensures
-
 pub returns : goal.returns
-returns c = listed_none _ _ _ c.loop-fact.invariant c.loop-fact-test.false
+returns c = any_from_yields_List (λ fact. covers fact c.args.goal.now) _ _ _ c.any.ensures.ran (YieldsList-from_slice c.args.facts.now cc) (λ x b q k. search (rules, tests))

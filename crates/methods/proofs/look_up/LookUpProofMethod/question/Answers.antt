@@ -1,26 +1,23 @@
-use Rattle.std.proofs.Common.{◌≡◌, Err, refl, ap, ◌∙◌}
+use Rattle.std.proofs.Common.{◌≡◌, refl, ap, ◌∙◌}
 use Rattle.std.proofs.lemmas.Result.{err_from_is_err_and}
-use Rattle.rows.specs.declared.fault.Fault.{Fault}
+use Rattle.rows.specs.declared.numbers.Numbers.{Numbers}
+use Rattle.std.proofs.Common.{List}
 use Rattle.methods.specs.Questions.{asked}
-use Rattle.methods.specs.LooksUp.{search_says, look_up_says, LookUpYes}
+use Rattle.methods.specs.LooksUp.{search_says, look_up_says}
 use Rattle.methods.proofs.StatedFaults.{look_up_faults}
-use Rattle.methods.proofs.Asked.{asked_many, asked_stops, asked_goes, exactly}
-use Rattle.methods.proofs.Listed.{look_up_only, look_up_if}
+use Rattle.methods.proofs.Asked.{opening_stops, opening_goes}
+use Rattle.methods.proofs.Listed.{look_up_exactly}
 use Rattle.methods.proofs.look_up.LookUpProofMethod.question.Goals as goal
 
-pub returns-then-count-sheet : goal.returns-then-count-sheet
-returns-then-count-sheet c =
-    let a = ap (λ (f : Fault). Err f) c.of.ensures ∙ asked_many c.args.count c.args.sheet.now c.args.goal.now c.args.certificate.now look_up_says c.if-count-sheet.true in
-    record { answer = a; kept = refl; same = refl; stated = look_up_faults _ _ _ _ _ a; exactly = exactly _ _ _ _ look_up_says LookUpYes _ a look_up_only look_up_if }
-
-pub returns-in_err-opening : goal.returns-in_err-opening
-returns-in_err-opening c =
+pub returns-in_err-facts : goal.returns-in_err-facts
+returns-in_err-facts c =
     let p = err_from_is_err_and c.from_residual.result c.from_residual.ensures.1 in
-    let a : c.from_residual.result ≡ asked look_up_says c.args.count c.args.sheet.now c.args.goal.now c.args.certificate.now =
-    rw (p.1, p.2) (asked_stops c.args.count c.args.sheet.now c.args.goal.now c.args.certificate.now (λ q. search_says q.facts q.goal q.certificate) _ c.if-count-sheet.false c.in_err-opening.ensures) in
-    record { answer = a; kept = refl; same = refl; stated = look_up_faults _ _ _ _ _ a; exactly = exactly _ _ _ _ look_up_says LookUpYes _ a look_up_only look_up_if }
+    let a : c.from_residual.result ≡ asked look_up_says c.args.claim.count c.args.sheet.now c.args.claim.goal.now c.args.claim.certificate.now =
+    rw (p.1, p.2) (opening_stops c.args.claim.count c.args.sheet.now c.args.claim.goal.now c.args.claim.certificate.now (λ q. search_says q.facts q.goal q.certificate) _ c.in_err-facts.ensures) in
+    record { answer = a; kept = refl; same = refl; stated = look_up_faults _ _ _ _ _ a; exactly = look_up_exactly _ _ _ _ _ a }
 
 pub returns : goal.returns
 returns c =
-    let a = asked_goes c.args.count c.args.sheet.now c.args.goal.now c.args.certificate.now (λ q. search_says q.facts q.goal q.certificate) _ c.if-count-sheet.false c.in_ok-opening.ensures c.search_test.ensures in
-    record { answer = a; kept = refl; same = refl; stated = look_up_faults _ _ _ _ _ a; exactly = exactly _ _ _ _ look_up_says LookUpYes _ a look_up_only look_up_if }
+    let a = opening_goes c.args.claim.count c.args.sheet.now c.args.claim.goal.now c.args.claim.certificate.now (λ q. search_says q.facts q.goal q.certificate) _ c.in_ok-facts.ensures.0
+    (c.search_test.ensures ∙ ap (λ (fs : List Numbers). search_says fs c.args.claim.goal.now c.args.claim.certificate.now) c.in_ok-facts.ensures.1) in
+    record { answer = a; kept = refl; same = refl; stated = look_up_faults _ _ _ _ _ a; exactly = look_up_exactly _ _ _ _ _ a }

@@ -1,0 +1,26 @@
+// What a method is asked.
+ghost use Rattle.std.specs.Prelude.{◌≡◌, ◌<◌, ◌≤◌, length, take, MatchResult};
+ghost use Rattle.rows.specs.Faults.{fault_of};
+ghost use Rattle.rows.specs.declared.fault.FaultKind.TheVariants.{TooManyFacts};
+
+use rows::{Fault, FaultKind, Numbers};
+
+// That the goal follows from the first `count` rows of a sheet, as the certificate shows. Any count may stand here: one
+// that is greater than the number of the sheet's rows is refused.
+#[derive(Clone, Copy)]
+pub struct Claim<'a> {
+    pub count: usize,
+    pub goal: &'a Numbers,
+    pub certificate: &'a [u8],
+}
+
+impl<'a> Claim<'a> {
+    // The facts: the first rows of the sheet, if it has so many.
+    pub fn facts<'s>(self, sheet: &'s [Numbers]) -> Result<&'s [Numbers], Fault>
+        ensures { MatchResult result (λ facts. (self.entry.count ≤ length sheet.now) × (facts.now ≡ take self.entry.count sheet.now)) (λ f. (length sheet.now < self.entry.count) × (f ≡ fault_of TooManyFacts 0 0 0)) }
+    {
+        sheet
+            .get(..self.count)
+            .ok_or(Fault::of(FaultKind::TooManyFacts))
+    }
+}
