@@ -5,6 +5,8 @@ use Rattle.std.specs.Str.{bytes_eq}
 use Rattle.std.proofs.ByRecursion.{All-from_get_or}
 use Rattle.std.proofs.lemmas.Slice.Eq.{bytes_eq-Decides}
 use Rattle.std.proofs.lemmas.Bool.{cond-true, cond-false, ne_eqb, eqb-true, cases_Bool}
+use Rattle.words.specs.Words.{pieces, onto}
+use Rattle.words.proofs.Cuts.{pieces_whole, pieces_at_lem}
 use Rattle.commands.specs.declared.stacks.Base.{Base}
 use Rattle.commands.specs.declared.stacks.Base.TheVariants.{Multipliers, LookUp}
 use Rattle.commands.specs.declared.stacks.Layer.{Layer}
@@ -12,8 +14,6 @@ use Rattle.commands.specs.declared.stacks.Layer.TheVariants.{Cut, Split}
 use Rattle.commands.specs.declared.stacks.Stack.{Stack}
 use Rattle.commands.specs.declared.stacks.Stack.TheVariants.{Bare, Single, Double}
 use Rattle.commands.specs.Stacks.{slash, base_of, layer_of, over, of_base, stacked, stack_of, base_name, layer_name, names, slashed, stack_text, StacksRead}
-use Rattle.commands.specs.Words.{pieces, onto}
-use Rattle.commands.proofs.Cuts.{pieces_whole, pieces_at_lem}
 
 -- a choice between two names
 module _ {X : Type 0} (w a b : List ℕ) (x y : X) where

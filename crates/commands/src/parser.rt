@@ -1,14 +1,14 @@
 // What a line says.
-ghost use Rattle.commands.specs.Lines.{keyword_of, line_by, sheet_rows, sheet_line, ask_line, line_of};
-ghost use Rattle.commands.specs.Read.{left, says_in};
+ghost use Rattle.commands.specs.Lines.{first_method, keyword_of, line_by, sheet_rows, sheet_line, ask_line, line_of};
+ghost use Rattle.commands.specs.Read.{says_in};
 ghost use Rattle.commands.specs.Saying.{LinesRead};
+ghost use Rattle.words.specs.Arguments.{rest_of};
+ghost use Rattle.words.specs.Read.{left};
 ghost use Rattle.std.specs.Prelude.{◌≡◌};
 
-use crate::errors::LineError;
-use crate::hex::Hex;
 use crate::stacks::Stack;
-use crate::words::Words;
 use rows::Numbers;
+use words::{Hex, LineError, Words};
 
 // The most rows that a sheet may have.
 pub const SHEET_ROWS: i64 = 64;
@@ -96,11 +96,22 @@ fn sheet(mut words: Words<'_>) -> Result<Command<'_>, LineError>
     Ok(Command::Sheet(sheet_rows(rows)?))
 }
 
+// The next word as a stack of methods.
+fn method(words: &mut Words<'_>) -> Result<Stack, LineError>
+    ensures value { result ≡ first_method (left words.old) }
+    ensures after { left words.new ≡ rest_of (left words.old) }
+{
+    match words.next() {
+        Some(word) => Stack::read(word).ok_or(LineError::UnknownMethod),
+        None => Err(LineError::MissingMethod),
+    }
+}
+
 // A stack of methods and a certificate.
 fn ask(mut words: Words<'_>) -> Result<Command<'_>, LineError>
     ensures { says_in result ≡ ask_line (left words.entry) }
 {
-    let stack = words.method()?;
+    let stack = method(&mut words)?;
     let certificate = words.hex()?;
     words.end()?;
     Ok(Command::Ask { stack, certificate })

@@ -1,6 +1,6 @@
 // Stacks of proof methods as they are written.
 ghost use Rattle.commands.specs.Stacks.{base_of, layer_of, of_base, over, slash, stacked, stack_of, StacksRead};
-ghost use Rattle.commands.specs.Words.{pieces};
+ghost use Rattle.words.specs.Words.{pieces};
 ghost use Rattle.std.specs.Prelude.{◌≡◌};
 
 // A method that stands alone.

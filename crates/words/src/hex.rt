@@ -8,7 +8,7 @@ use crate::errors::LineError;
 use std::alloc::{AllocError, Global};
 
 // A word that writes bytes: pairs of hexadecimal digits, or a dash alone for no byte.
-#[derive(Clone, Copy)]
+#[derive(Clone, Copy, PartialEq, Eq, Debug)]
 pub struct Hex<'a> {
     word: &'a str,
 }

@@ -1,7 +1,7 @@
 use Rattle.std.proofs.Common.{sym, ap, ◌∙◌, arith}
 use Rattle.std.proofs.lemmas.Str.Pattern.{starts_char}
 use Rattle.std.proofs.lemmas.Bool.Decides.{not_from_Decides}
-use Rattle.commands.specs.Words.{words_of}
+use Rattle.words.specs.Words.{words_of}
 use Rattle.commands.proofs.Parsing.{line_none, line_comment, line_keyed}
 use Rattle.commands.proofs.Said.{lines_read}
 use Rattle.commands.proofs.parser.parse.Goals as goal
