@@ -26,10 +26,7 @@ impl<'a> Words<'a> {
         ensures value { result ≡ first_number (left self.old) }
         ensures after { left self.new ≡ rest_of (left self.old) }
     {
-        match self.next() {
-            Some(word) => numerals::number(word),
-            None => Err(LineError::TooFewWords),
-        }
+        numerals::number(self.next().ok_or(LineError::TooFewWords)?)
     }
 
     // The next word as one that writes bytes.
@@ -37,10 +34,7 @@ impl<'a> Words<'a> {
         ensures value { word_in result ≡ first_hex (left self.old) }
         ensures after { left self.new ≡ rest_of (left self.old) }
     {
-        match self.next() {
-            Some(word) => Hex::read(word),
-            None => Err(LineError::MissingHex),
-        }
+        Hex::read(self.next().ok_or(LineError::MissingHex)?)
     }
 
     // Eight coefficients and a bound, and no word more.
@@ -49,8 +43,8 @@ impl<'a> Words<'a> {
         ensures law { NumbersRead }
     {
         let mut coefficients = [0; COLUMNS];
-        for column in 0..COLUMNS {
-            coefficients[column] = self.number()?;
+        for coefficient in &mut coefficients {
+            *coefficient = self.number()?;
         }
         let bound = self.number()?;
         self.end()?;

@@ -1,5 +1,5 @@
 // Bytes written as hexadecimal digits.
-ghost use Rattle.std.specs.Prelude.{◌≡◌, ◌+◌, ◌*◌, true, IfOk};
+ghost use Rattle.std.specs.Prelude.{◌≡◌, ◌+◌, ◌*◌, true, length, IfOk};
 ghost use Rattle.words.specs.Hex.{all_hex, hex_bytes, pairs_of, digits_only, checked, HexReads};
 ghost use Rattle.words.specs.Read.{word_in, Decoded};
 ghost use Rattle.std.specs.Char.{is_ascii_hexdigit, digit_value};
@@ -17,22 +17,17 @@ pub struct Hex<'a> {
 fn all_hex(bytes: &[u8]) -> bool
     ensures { result ≡ all_hex bytes.now }
 {
-    for byte in bytes {
-        if !byte.is_ascii_hexdigit() {
-            return false;
-        }
-    }
-    true
+    bytes.iter().all(|byte| byte.is_ascii_hexdigit())
 }
 
-// Whether so many characters, hexadecimal digits or not, write bytes, and if not, why.
-fn check_digits(hex: bool, count: usize) -> Result<(), LineError>
-    ensures { result ≡ digits_only hex count tt }
+// Whether the characters are hexadecimal digits, an even number of them, and if not, why.
+fn check_digits(digits: &[u8]) -> Result<(), LineError>
+    ensures { result ≡ digits_only (all_hex digits.now) (length digits.now) tt }
 {
-    if !hex {
+    if !all_hex(digits) {
         return Err(LineError::NoHexDigit);
     }
-    if count % 2 != 0 {
+    if digits.len() % 2 != 0 {
         return Err(LineError::OddHexDigits);
     }
     Ok(())
@@ -45,7 +40,7 @@ fn check(word: &str) -> Result<(), LineError>
     if word == "-" {
         return Ok(());
     }
-    check_digits(all_hex(word.as_bytes()), word.len())
+    check_digits(word.as_bytes())
 }
 
 // The value of a hexadecimal digit.
@@ -53,11 +48,7 @@ fn digit_value(digit: u8) -> u8
     requires { is_ascii_hexdigit digit ≡ true }
     ensures { result ≡ digit_value digit }
 {
-    match digit {
-        b'0'..=b'9' => digit - b'0',
-        b'a'..=b'f' => digit - b'a' + 10,
-        _ => digit - b'A' + 10,
-    }
+    char::from(digit).to_digit(16).unwrap() as u8
 }
 
 // The byte of two hexadecimal digits.
@@ -75,8 +66,10 @@ fn decode(digits: &[u8], heap: Global) -> Result<Vec<u8>, AllocError>
     ensures { IfOk result (λ v. v.items ≡ pairs_of digits.now) }
 {
     let mut bytes = Vec::new(heap);
-    for i in 0..digits.len() / 2 {
-        bytes.push(pair_value(digits[2 * i], digits[2 * i + 1]))?;
+    let mut left = digits;
+    while let [high, low, behind @ ..] = left {
+        bytes.push(pair_value(*high, *low))?;
+        left = behind;
     }
     Ok(bytes)
 }

@@ -1,41 +1,14 @@
 // A line as words.
-ghost use Rattle.words.specs.Words.{separator, Front, Handed, WordsRead};
-ghost use Rattle.std.specs.Prelude.{◌≡◌, true, false};
+ghost use Rattle.words.specs.Words.{Handed, WordsRead};
+ghost use Rattle.std.specs.Prelude.{◌≡◌};
 
-// What is left of a line. Words are separated by spaces, tabs and carriage returns.
+// What stands between words: spaces, tabs and carriage returns.
+const SEPARATORS: [char; 3] = [' ', '\t', '\r'];
+
+// What is left of a line.
 #[derive(Clone, Copy)]
 pub struct Words<'a> {
     rest: &'a str,
-}
-
-fn is_separator(byte: u8) -> bool
-    ensures { result ≡ separator byte }
-{
-    byte == b' ' || byte == b'\t' || byte == b'\r'
-}
-
-// How many separators stand in front.
-fn blanks(bytes: &[u8]) -> usize
-    ensures { Front true bytes.now result }
-{
-    for (i, byte) in bytes.iter().enumerate() {
-        if !is_separator(*byte) {
-            return i;
-        }
-    }
-    bytes.len()
-}
-
-// How many bytes stand before the first separator.
-fn word_length(bytes: &[u8]) -> usize
-    ensures { Front false bytes.now result }
-{
-    for (i, byte) in bytes.iter().enumerate() {
-        if is_separator(*byte) {
-            return i;
-        }
-    }
-    bytes.len()
 }
 
 impl<'a> Words<'a> {
@@ -51,9 +24,9 @@ impl<'a> Words<'a> {
         ensures handed { Handed result self.old.rest.now self.new.rest.now }
         ensures law { WordsRead }
     {
-        let line = self.rest;
-        let (_, text) = line.split_at(blanks(line.as_bytes()));
-        let (word, rest) = text.split_at(word_length(text.as_bytes()));
+        let text = self.rest.trim_start_matches(SEPARATORS);
+        let end = text.find(SEPARATORS).unwrap_or(text.len());
+        let (word, rest) = text.split_at(end);
         self.rest = rest;
         if word.is_empty() { None } else { Some(word) }
     }

@@ -11,6 +11,5 @@ returns-then-eq c = sym (ap (λ r. checked r tt) (hex_dash _ ((slice_eq-Decides 
 
 pub returns : goal.returns
 returns c =
-    c.check_digits.ensures
-    ∙ ap (λ b. digits_only b (length c.args.word.now) tt) (c.all_hex.ensures ∙ ap all_hex c.as_bytes.ensures.value)
+    c.check_digits.ensures ∙ ap (λ s. digits_only (all_hex s) (length s) tt) c.as_bytes.ensures.value
     ∙ sym (hex_digits_lem _ (λ e. true≢false (sym ((slice_eq-Decides Decides-eqb _ _ _ c.if-eq.ensures).1 e))))

@@ -1,11 +1,10 @@
 use Rattle.std.proofs.Common.{ap, ◌∙◌, arith}
 use Rattle.std.proofs.lemmas.Str.Pattern.{strip_prefix_char}
-use Rattle.std.proofs.lemmas.Option.{MatchOption-at_none}
 use Rattle.words.specs.Numerals.{is_numeral}
-use Rattle.words.proofs.Decimal.{number_plain}
+use Rattle.words.proofs.Decimal.{number_stripped}
 use Rattle.words.proofs.numerals.is_number.Goals as goal
 
-pub returns-in-None : goal.returns-in-None
-returns-in-None c =
-    c.is_numeral-in-None.ensures ∙ ap is_numeral c.as_bytes-in-None.ensures.value
-    ∙ number_plain _ (MatchOption-at_none _ _ c.in-None.is (strip_prefix_char 45 c.args.word.now _ c.strip_prefix.ensures.cases (omega arith)))
+pub returns : goal.returns
+returns c =
+    c.is_numeral.ensures ∙ ap is_numeral c.as_bytes.ensures.value ∙ ap (λ r. is_numeral r.now) c.unwrap_or-digits.ensures
+    ∙ number_stripped _ _ (strip_prefix_char 45 c.args.word.now _ c.strip_prefix.ensures.cases (omega arith))

@@ -1,12 +1,6 @@
-use Rattle.std.proofs.Common.{not, sym, ap, ◌∙◌}
-use Rattle.words.proofs.Decimal.{digits_more, digits_not, digits_all}
+use Rattle.std.proofs.Common.{◌∙◌}
+use Rattle.words.proofs.Decimal.{numeral_all}
 use Rattle.words.proofs.numerals.is_numeral.Goals as goal
 
-pub returns-then-not-is_ascii_digit : goal.returns-then-not-is_ascii_digit
-returns-then-not-is_ascii_digit c = sym (digits_not _ _ c.loop-byte.invariant c.loop-byte-test.true (sym c.if-not-is_ascii_digit.ensures.value))
-
-pub loop-byte-preserved : goal.loop-byte-preserved
-loop-byte-preserved c = digits_more _ _ c.loop-byte.invariant c.loop-byte-test.true (sym c.if-not-is_ascii_digit.ensures.value)
-
-pub returns : goal.returns
-returns c = ap not c.is_empty.ensures ∙ sym (digits_all _ _ c.loop-byte.invariant c.loop-byte-test.false)
+pub returns-then-not-is_empty : goal.returns-then-not-is_empty
+returns-then-not-is_empty c = c.all_digits.ensures ∙ numeral_all c.args.bytes.now c.if-not-is_empty.ensures
