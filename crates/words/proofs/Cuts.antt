@@ -1,16 +1,16 @@
 -- Texts cut into pieces and lines cut into words, put together from their parts.
-use Rattle.std.proofs.Common.{◌≡◌, ℕ, ◌<◌, ◌≤◌, Bool, true, false, List, [], ◌∷◌, ◌++◌, length, get_or, take, drop, IfSome, MatchOption, unwrap_or, Some, None, Option, sym, refl, ap, ◌∙◌, subst, ⊎_elim, append-nil, arith}
+use Rattle.std.proofs.Common.{◌≡◌, ℕ, ◌<◌, ◌≤◌, Bool, true, false, List, [], ◌∷◌, ◌++◌, length, get_or, take, drop, IfSome, MatchOption, unwrap_or, Some, None, Option, sym, refl, ap, ◌∙◌, subst, ⊎_elim, append-nil, add-zero, arith}
 use Rattle.std.specs.Char.{IsScalar, char_set_contains}
 use Rattle.std.specs.List.{AllByRecursion}
 use Rattle.std.specs.Str.{NoCharPasses}
 use Rattle.std.specs.Str.Pattern.{FindsBy, FindsPrefixBy, MatchBeginsAt, CutsPrefixes, IsTrimStartMatches}
-use Rattle.std.proofs.lemmas.List.{take-append-drop, length-append, length-drop, take_all, nil_from_length}
+use Rattle.std.proofs.lemmas.List.{take-append-drop, length-append, length-take-le, length-drop, get_or-take, get_or-drop, nil_from_length}
 use Rattle.std.proofs.ByRecursion.{All-from_get_or}
 use Rattle.std.proofs.lemmas.Str.{NoCharPasses-byte, encode_ascii, len_utf8_bounds}
 use Rattle.std.proofs.lemmas.Str.Pattern.{drop_at_char}
 use Rattle.std.proofs.lemmas.Bool.{cond-true, cond-false, cond_both, both_ways, cases_Bool, cases_lt}
 use Rattle.std.proofs.lemmas.Bool.Decides.{nat_tests}
-use Rattle.words.specs.Words.{separator, onto, pieces, filled, words_of, Word, spaced, WordsRead}
+use Rattle.words.specs.Words.{separator, Front, onto, pieces, filled, words_of, Word, spaced, WordsRead}
 
 module _ (cut : ℕ → Bool) where
   -- a text that is not cut
@@ -46,10 +46,8 @@ words_more w (z ∷ zs) h e =
 separator_ascii : (b : ℕ) → separator b ≡ true → b < 128
 separator_ascii b h = grind (arith, nat_tests)
 
-solid : (bs : List ℕ) → NoCharPasses separator bs → AllByRecursion (λ b. separator b ≡ false) bs
-solid bs h =
-    All-from_get_or (λ b. separator b ≡ false) bs 0
-    (λ i l. ⊎_elim (λ t. NoCharPasses-byte separator bs i h l (separator_ascii _ t)) (λ f. f) (cases_Bool (separator (get_or bs i 0))))
+solid : (bs : List ℕ) → NoCharPasses separator bs → (i : ℕ) → i < length bs → separator (get_or bs i 0) ≡ false
+solid bs h i l = ⊎_elim (λ t. NoCharPasses-byte separator bs i h l (separator_ascii _ t)) (λ f. f) (cases_Bool (separator (get_or bs i 0)))
 
 -- what the searches of `str` say at the characters that separate words
 abbrev separators : List ℕ
@@ -86,39 +84,50 @@ fully (b ∷ bs) (Some n) h z some =
     absurd (omega (arith, z, p.2.ends, (len_utf8_bounds p.0).0))
 
 -- what stands before the first separator that was found, or before the end
-until : (text : List ℕ) (o : Option ℕ) → MatchOption o (Finds text None) (MatchBeginsAt Finds text) → AllByRecursion (λ b. separator b ≡ false) (take (unwrap_or o (length text)) text)
-until text None h = subst (AllByRecursion (λ b. separator b ≡ false)) (sym (take_all (length text) text (omega arith))) (solid text (h separator separators_lem))
-until text (Some i) h = solid (take i text) (h.1 separator separators_lem).0
+pub front_found : (text : List ℕ) (o : Option ℕ) → MatchOption o (Finds text None) (MatchBeginsAt Finds text) → Front false text (unwrap_or o (length text))
+front_found text None h =
+    let dark = solid text (h separator separators_lem) in
+    record { within = omega arith; all = λ k l. dark k l; stops = λ l. absurd (omega arith) }
+front_found text (Some i) h =
+    let p = h.1 separator separators_lem in
+    let at : drop i text ≡ p.1.0 ∷ drop h.0 text = drop_at_char p.1.0 text i h.0 p.1.2 (separator_ascii p.1.0 p.1.1) in
+    let some : i < length text = omega (arith, ap length at, length-drop i text) in
+    let long = length-take-le i text (omega arith) in
+    record {
+      within = omega arith;
+      all = λ k l. ap separator (sym (get_or-take i text k 0 l)) ∙ solid (take i text) p.0 k (omega arith);
+      stops = λ _. ap separator (ap (λ n. get_or text n 0) (sym (add-zero i)) ∙ sym (get_or-drop i text 0 0) ∙ ap (λ l. get_or l 0 0) at) ∙ p.1.1;
+    }
 
--- and what stands behind it
-from : (text : List ℕ) (o : Option ℕ) → MatchOption o (Finds text None) (MatchBeginsAt Finds text) → 0 < length (drop (unwrap_or o (length text)) text) → separator (get_or (drop (unwrap_or o (length text)) text) 0 0) ≡ true
-from text None h some = absurd (omega (arith, length-drop (length text) text))
-from text (Some i) h some =
-    let p = (h.1 separator separators_lem).1 in
-    ap (λ l. separator (get_or l 0 0)) (drop_at_char p.0 text i h.0 p.2 (separator_ascii p.0 p.1)) ∙ p.1
+front_all : {t : Bool} {bs : List ℕ} {n : ℕ} → Front t bs n → AllByRecursion (λ x. separator x ≡ t) (take n bs)
+front_all {t} {bs} {n} f =
+    let long = length-take-le n bs f.within in
+    All-from_get_or (λ x. separator x ≡ t) (take n bs) 0 (λ i h. ap separator (get_or-take n bs i 0 (omega arith)) ∙ f.all i (omega arith))
 
 -- a line without the separators in front, cut at the next one
-pub record Cut (line text word rest : List ℕ) (o : Option ℕ) : Type 0 where
+pub record Cut (line text word rest : List ℕ) (n : ℕ) : Type 0 where
   pub bound : length text ≤ length line
   pub trim : IsTrimStartMatches Cuts line text
-  pub find : MatchOption o (Finds text None) (MatchBeginsAt Finds text)
-  pub front : word ≡ take (unwrap_or o (length text)) text
-  pub back : rest ≡ drop (unwrap_or o (length text)) text
+  pub solid : Front false text n
+  pub front : word ≡ take n text
+  pub back : rest ≡ drop n text
 
-module _ {line text word rest : List ℕ} {o : Option ℕ} (cut : Cut line text word rest o) where
+module _ {line text word rest : List ℕ} {n : ℕ} (cut : Cut line text word rest n) where
   after_gap : words_of line ≡ words_of text
   after_gap = cut_off cut.trim.0.0 line text cut.trim.0.1
 
   whole : text ≡ word ++ rest
-  whole = sym (take-append-drop (unwrap_or o (length text)) text) ∙ (λ i. sym cut.front i ++ sym cut.back i)
+  whole = sym (take-append-drop n text) ∙ (λ i. sym cut.front i ++ sym cut.back i)
 
   gap : 0 < length rest → separator (get_or rest 0 0) ≡ true
-  gap some = ap (λ l. separator (get_or l 0 0)) cut.back ∙ from text o cut.find (subst (λ l. 0 < length l) cut.back some)
+  gap some =
+      let left = ap length cut.back ∙ length-drop n text in
+      ap separator (ap (λ l. get_or l 0 0) cut.back ∙ get_or-drop n text 0 0 ∙ ap (λ i. get_or text i 0) (add-zero n)) ∙ cut.solid.stops (omega arith)
 
   -- the first word and the others
   pub first_word : 0 < length word → (words_of line ≡ word ∷ words_of rest) × (length rest < length line)
   first_word some =
-      let dark = subst (AllByRecursion (λ b. separator b ≡ false)) (sym cut.front) (until text o cut.find) in
+      let dark = subst (AllByRecursion (λ b. separator b ≡ false)) (sym cut.front) (front_all cut.solid) in
       (after_gap ∙ ap words_of whole ∙ words_more word rest (some, dark) gap, omega (arith, cut.bound, ap length whole, length-append word rest))
 
   -- no word is left

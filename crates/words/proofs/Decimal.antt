@@ -5,6 +5,8 @@ use Rattle.std.specs.Borrow.{Bor}
 use Rattle.std.specs.List.{list_all}
 use Rattle.std.specs.Result.{OkIff}
 use Rattle.std.specs.Str.Parse.{ParsesSigned}
+use Rattle.std.specs.Str.Pattern.{FindsCharPrefix, StripsPrefix}
+use Rattle.std.proofs.lemmas.Str.Pattern.{strip_prefix_char}
 use Rattle.std.specs.Char.{is_ascii_digit}
 use Rattle.std.specs.Str.{all_ascii_digits}
 use Rattle.std.proofs.lemmas.Fmt.{digits_decimal, digits_value-decimal, decimal_nonempty}
@@ -87,9 +89,12 @@ number_plain (c ∷ cs) h =
     same_plus (Some n) = refl
 
 -- with the minus cut off, if there is one
-pub number_stripped : (word : Bor (List ℕ)) (r : Option (Bor (List ℕ))) → MatchOption r ((rest : List ℕ) → word.now ≡ 45 ∷ rest → ⊥) (λ x. word.now ≡ 45 ∷ x.now) → is_numeral (unwrap_or r word).now ≡ is_some (whole_of word.now)
-number_stripped word None h = number_plain word.now h
-number_stripped word (Some x) h = number_minus word.now x.now h
+pub number_stripped : (word : Bor (List ℕ)) (r : Option (Bor (List ℕ))) → MatchOption r (FindsCharPrefix 45 word.now None) (λ x. StripsPrefix (FindsCharPrefix 45) word.now x.now) → is_numeral (unwrap_or r word).now ≡ is_some (whole_of word.now)
+number_stripped word r h = cases r (strip_prefix_char 45 word.now r h (omega arith))
+  where
+    cases : (o : Option (Bor (List ℕ))) → MatchOption o ((rest : List ℕ) → word.now ≡ 45 ∷ rest → ⊥) (λ x. word.now ≡ 45 ∷ x.now) → is_numeral (unwrap_or o word).now ≡ is_some (whole_of word.now)
+    cases None h = number_plain word.now h
+    cases (Some x) h = number_minus word.now x.now h
 
 -- a word that writes no number
 pub number_none : (bs : List ℕ) → is_some (whole_of bs) ≡ false → number_of bs ≡ Err NotANumber

@@ -1,5 +1,5 @@
 // The arguments of a command, read from the words that are left.
-ghost use Rattle.words.specs.Arguments.{rest_of, ended, first_number, first_hex, nine_numbers, NumbersRead};
+ghost use Rattle.words.specs.Arguments.{rest_of, ended, first_number, first_hex, nine_numbers, EightRead, NumbersRead};
 ghost use Rattle.words.specs.Read.{left, word_in};
 ghost use Rattle.std.specs.Prelude.{◌≡◌};
 
@@ -37,15 +37,24 @@ impl<'a> Words<'a> {
         Hex::read(self.next().ok_or(LineError::MissingHex)?)
     }
 
-    // Eight coefficients and a bound, and no word more.
-    pub fn numbers(mut self) -> Result<Numbers, LineError>
-        ensures value { result ≡ nine_numbers (left self.entry) }
-        ensures law { NumbersRead }
+    // The next eight words as numbers.
+    #[tactic(auto, using(crate::proofs::Reading::reading_ends))]
+    fn coefficients(&mut self) -> Result<[i64; COLUMNS], LineError>
+        ensures { EightRead (left self.old) (left self.new) result }
     {
         let mut coefficients = [0; COLUMNS];
         for coefficient in &mut coefficients {
             *coefficient = self.number()?;
         }
+        Ok(coefficients)
+    }
+
+    // Eight coefficients and a bound, and no word more.
+    pub fn numbers(mut self) -> Result<Numbers, LineError>
+        ensures value { result ≡ nine_numbers (left self.entry) }
+        ensures law { NumbersRead }
+    {
+        let coefficients = self.coefficients()?;
         let bound = self.number()?;
         self.end()?;
         Ok(Numbers {

@@ -21,6 +21,7 @@ fn is_numeral(bytes: &[u8]) -> bool
 }
 
 // A numeral, with or without a minus in front.
+#[tactic(auto, using(crate::proofs::Decimal::number_stripped))]
 fn is_number(word: &str) -> bool
     ensures { result ≡ is_some (whole_of word.now) }
 {

@@ -1,6 +1,6 @@
 // A line as words.
-ghost use Rattle.words.specs.Words.{Handed, WordsRead};
-ghost use Rattle.std.specs.Prelude.{◌≡◌};
+ghost use Rattle.words.specs.Words.{Front, Handed, WordsRead};
+ghost use Rattle.std.specs.Prelude.{◌≡◌, false};
 
 // What stands between words: spaces, tabs and carriage returns.
 const SEPARATORS: [char; 3] = [' ', '\t', '\r'];
@@ -9,6 +9,14 @@ const SEPARATORS: [char; 3] = [' ', '\t', '\r'];
 #[derive(Clone, Copy)]
 pub struct Words<'a> {
     rest: &'a str,
+}
+
+// How many bytes stand before the first separator.
+#[tactic(auto, using(crate::proofs::Cuts::front_found))]
+fn word_length(text: &str) -> usize
+    ensures { Front false text.now result }
+{
+    text.find(SEPARATORS).unwrap_or(text.len())
 }
 
 impl<'a> Words<'a> {
@@ -25,8 +33,7 @@ impl<'a> Words<'a> {
         ensures law { WordsRead }
     {
         let text = self.rest.trim_start_matches(SEPARATORS);
-        let end = text.find(SEPARATORS).unwrap_or(text.len());
-        let (word, rest) = text.split_at(end);
+        let (word, rest) = text.split_at(word_length(text));
         self.rest = rest;
         if word.is_empty() { None } else { Some(word) }
     }

@@ -1,16 +1,16 @@
 -- The line without the separators in front is cut at the next one.
-use Rattle.std.proofs.Common.{take, drop, ap, ◌∙◌, arith, true-eqb, false-eqb}
+use Rattle.std.proofs.Common.{arith, true-eqb, false-eqb}
 use Rattle.words.proofs.Cuts.{Cut, first_word, no_word, words_read}
 use Rattle.words.proofs.words.Words.next.Goals.{After-split_at}
 use Rattle.words.proofs.words.Words.next.Goals as goal
 
-cut_of : (c : After-split_at) → Cut c.args.self.now.rest.now c.trim_start_matches-text.result.now c.split_at.result.0.now c.split_at.result.1.now c.find.result
+cut_of : (c : After-split_at) → Cut c.args.self.now.rest.now c.trim_start_matches-text.result.now c.split_at.result.0.now c.split_at.result.1.now c.word_length.result
 cut_of c = record {
   bound = c.trim_start_matches-text.ensures.bound;
   trim = c.trim_start_matches-text.ensures.matches;
-  find = c.find.ensures.cases;
-  front = c.split_at.ensures.front ∙ ap (λ n. take n c.trim_start_matches-text.result.now) c.unwrap_or-end.ensures;
-  back = c.split_at.ensures.back ∙ ap (λ n. drop n c.trim_start_matches-text.result.now) c.unwrap_or-end.ensures;
+  solid = c.word_length.ensures;
+  front = c.split_at.ensures.front;
+  back = c.split_at.ensures.back;
 }
 
 pub returns-then-is_empty : goal.returns-then-is_empty
