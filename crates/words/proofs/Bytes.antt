@@ -25,6 +25,9 @@ pub hex_dash : (w : List ℕ) → w ≡ codes "-" → hex_bytes w ≡ Ok []
 unfolding hex_bytes
 hex_dash w e = cond-true (bytes_eq w (codes "-")) _ _ ((bytes_eq-Decides w (codes "-")).1 e)
 
+pub dash_checked : (w : List ℕ) → bytes_eq w (codes "-") ≡ true → checked (hex_bytes w) (tt {0}) ≡ Ok tt
+dash_checked w e = ap (λ r. checked r (tt {0})) (hex_dash w ((bytes_eq-Decides w (codes "-")).0 e))
+
 module _ (w : List ℕ) (other : w ≡ codes "-" → ⊥) where
   digits_only_lem : hex_bytes w ≡ digit_bytes w
   unfolding hex_bytes

@@ -34,6 +34,7 @@ fn check_digits(digits: &[u8]) -> Result<(), LineError>
 }
 
 // Whether the word writes bytes, and if not, why.
+#[tactic(auto, using(crate::proofs::Bytes::dash_checked, crate::proofs::Bytes::hex_digits_lem))]
 fn check(word: &str) -> Result<(), LineError>
     ensures { result ≡ checked (hex_bytes word.now) tt }
 {
@@ -52,6 +53,7 @@ fn digit_value(digit: u8) -> u8
 }
 
 // The byte of two hexadecimal digits.
+#[tactic(auto, using(crate::proofs::Bytes::digit_small))]
 fn pair_value(high: u8, low: u8) -> u8
     requires high { is_ascii_hexdigit high ≡ true }
     requires low { is_ascii_hexdigit low ≡ true }
