@@ -1,10 +1,11 @@
 -- A line put together from what its words were read as.
-use Rattle.std.proofs.Common.{◌≡◌, ℕ, eqb, List, [], ◌∷◌, get_or, ℤ, IsErrAnd, None, Ok, Err, Option, Result, refl, ap, ◌∙◌, ⊎_elim}
+use Rattle.std.proofs.Common.{◌≡◌, ℕ, eqb, List, [], ◌∷◌, get_or, ℤ, IsErrAnd, ok_or, Some, None, Ok, Err, Option, Result, refl, ap, ◌∙◌, ⊎_elim, arith}
 use Rattle.std.specs.List.{AllByRecursion}
 use Rattle.std.specs.Str.{bytes_eq}
 use Rattle.std.proofs.lemmas.Slice.Eq.{bytes_eq-Decides}
 use Rattle.std.proofs.lemmas.Bool.{cond-true, cond-false, cases_Bool, eq-eqb, ne_eqb}
 use Rattle.words.specs.declared.errors.LineError.{LineError}
+use Rattle.words.specs.declared.errors.LineError.TheVariants.{UnknownCommand}
 use Rattle.words.specs.Arguments.{and_then, rest_of, ended, first_number, first_hex}
 use Rattle.words.specs.Words.{words_of}
 use Rattle.words.proofs.Reading.{handed_err, ended_ok, ended_err}
@@ -70,3 +71,10 @@ module _ (bytes w : List ℕ) (ws : List (List ℕ)) (words : words_of bytes ≡
   pub line_keyed : (get_or w 0 0 ≡ 35 → ⊥) → (k : Option Keyword) → keyword_of w ≡ k → line_of bytes ≡ keyed k ws
   unfolding line_of
   line_keyed h k e = ap line_from words ∙ cond-false (eqb (get_or w 0 0) 35) _ _ (ne_eqb _ 35 h) ∙ ap (λ o. keyed o ws) e
+
+  pub line_unknown : (get_or w 0 0 ≡ 35 → ⊥) → (e : LineError) → ok_or (keyword_of w) UnknownCommand ≡ Err e → line_of bytes ≡ Err e
+  line_unknown h e none = line_keyed h (keyword_of w) refl ∙ unknown (keyword_of w) none
+    where
+      unknown : (o : Option Keyword) → ok_or o UnknownCommand ≡ Err e → keyed o ws ≡ Err e
+      unknown None none = let same : UnknownCommand ≡ e = cc in ap Err same
+      unknown (Some k) none = let z : ◌≡◌ {A = ℕ} 0 1 = cc in absurd (omega arith)

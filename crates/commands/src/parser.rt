@@ -67,10 +67,7 @@ impl Keyword {
             Keyword::Sheet => sheet(words),
             Keyword::Fact => Ok(Command::Fact(words.numbers()?)),
             Keyword::Goal => Ok(Command::Goal(words.numbers()?)),
-            Keyword::Forget => {
-                words.end()?;
-                Ok(Command::Forget)
-            }
+            Keyword::Forget => words.end().map(|()| Command::Forget),
             Keyword::Row => Ok(Command::Row(words.numbers()?)),
             Keyword::Ask => ask(words),
         }
@@ -81,10 +78,10 @@ impl Keyword {
 fn sheet_rows(rows: i64) -> Result<usize, LineError>
     ensures { result ≡ sheet_rows rows }
 {
-    if rows < 0 || rows > SHEET_ROWS {
+    if rows > SHEET_ROWS {
         return Err(LineError::SheetRows);
     }
-    Ok(rows as usize)
+    usize::try_from(rows).map_err(|_| LineError::SheetRows)
 }
 
 // A number of rows.
@@ -101,10 +98,8 @@ fn method(words: &mut Words<'_>) -> Result<Stack, LineError>
     ensures value { result ≡ first_method (left words.old) }
     ensures after { left words.new ≡ rest_of (left words.old) }
 {
-    match words.next() {
-        Some(word) => Stack::read(word).ok_or(LineError::UnknownMethod),
-        None => Err(LineError::MissingMethod),
-    }
+    let word = words.next().ok_or(LineError::MissingMethod)?;
+    Stack::read(word).ok_or(LineError::UnknownMethod)
 }
 
 // A stack of methods and a certificate.
@@ -129,8 +124,6 @@ pub fn parse(line: &str) -> Result<Command<'_>, LineError>
     if first.starts_with('#') {
         return Ok(Command::Nothing);
     }
-    match Keyword::read(first) {
-        Some(keyword) => keyword.command(words),
-        None => Err(LineError::UnknownCommand),
-    }
+    let keyword = Keyword::read(first).ok_or(LineError::UnknownCommand)?;
+    keyword.command(words)
 }
