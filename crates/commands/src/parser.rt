@@ -45,6 +45,7 @@ enum Keyword {
 
 impl Keyword {
     // The keyword that a word is.
+    #[tactic(auto, using(crate::proofs::Parsing::unlike))]
     fn read(word: &str) -> Option<Keyword>
         ensures { result ≡ keyword_of word.now }
     {

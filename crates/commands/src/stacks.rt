@@ -27,6 +27,7 @@ pub enum Stack {
 
 impl Base {
     // The base of that name.
+    #[tactic(auto, using(crate::proofs::Parsing::unlike))]
     fn read(name: &str) -> Option<Base>
         ensures { result ≡ base_of name.now }
     {
@@ -40,6 +41,7 @@ impl Base {
 
 impl Layer {
     // The layer of that name.
+    #[tactic(auto, using(crate::proofs::Parsing::unlike))]
     fn read(name: &str) -> Option<Layer>
         ensures { result ≡ layer_of name.now }
     {
