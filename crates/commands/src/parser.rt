@@ -44,7 +44,7 @@ enum Keyword {
 }
 
 impl Keyword {
-    // The keyword that a word is.
+    // The keyword that a word is. An Option says all: FromStr would need an error type that says no more.
     #[tactic(auto, using(crate::proofs::Parsing::unlike))]
     fn read(word: &str) -> Option<Keyword>
         ensures { result ≡ keyword_of word.now }

@@ -73,12 +73,14 @@ impl fmt::Display for Reply {
             Reply::Done => f.write_str("ok"),
             Reply::Table(table) => table.fmt(f),
             Reply::Witness(witness) => witness.fmt(f),
-            Reply::Refused(Fault {
-                kind,
-                place,
-                depth,
-                item,
-            }) => {
+            Reply::Refused(
+                Fault {
+                    kind,
+                    place,
+                    depth,
+                    item,
+                },
+            ) => {
                 let number = kind.number();
                 write!(f, "refused {number} at {place} layer {depth} item {item}")
             }

@@ -77,7 +77,8 @@ fn decode(digits: &[u8], heap: Global) -> Result<Vec<u8>, AllocError>
 }
 
 impl<'a> Hex<'a> {
-    // Reads a word.
+    // Reads a word, which the value borrows: FromStr could not.
+    #[tactic(auto, using(crate::proofs::Bytes::hex_reads, crate::proofs::Bytes::rechecked_ok, crate::proofs::Bytes::rechecked_err))]
     pub fn read(word: &'a str) -> Result<Hex<'a>, LineError>
         ensures value { word_in result ≡ checked (hex_bytes word.now) word.now }
         ensures law { HexReads }
@@ -87,6 +88,7 @@ impl<'a> Hex<'a> {
     }
 
     // The bytes that the word writes.
+    #[tactic(auto, using(crate::proofs::Bytes::dash_read, crate::proofs::Bytes::digits_checked, crate::proofs::Bytes::digits_read))]
     pub fn bytes(&self, heap: Global) -> Result<Vec<u8>, LineError>
         ensures { Decoded result (hex_bytes self.now.word.now) }
     {

@@ -14,6 +14,7 @@ fn all_digits(bytes: &[u8]) -> bool
 }
 
 // One decimal digit or more, and nothing else.
+#[tactic(auto, using(crate::proofs::Decimal::numeral_all))]
 fn is_numeral(bytes: &[u8]) -> bool
     ensures { result ≡ is_numeral bytes.now }
 {

@@ -1,3 +1,4 @@
+-- `ask`, argument by argument.
 use Rattle.std.proofs.Common.{◌≡◌, sym, ap, ◌∙◌}
 use Rattle.words.specs.Arguments.{first_hex, rest_of, ended}
 use Rattle.words.specs.Read.{left, word_in}

@@ -1,3 +1,4 @@
+-- A line by its first word.
 use Rattle.std.proofs.Common.{ok_or, sym, ap, ◌∙◌, arith}
 use Rattle.std.specs.Result.{result_ok}
 use Rattle.std.proofs.lemmas.Str.Pattern.{starts_char}

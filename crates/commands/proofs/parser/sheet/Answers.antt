@@ -1,3 +1,4 @@
+-- `sheet`, argument by argument.
 use Rattle.std.proofs.Common.{Ok, sym, ap, ◌∙◌, w64, SFits, rules}
 use Rattle.std.proofs.lemmas.Int.{to_z-of_z}
 use Rattle.words.specs.Arguments.{ended, and_then}

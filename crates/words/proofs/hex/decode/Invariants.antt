@@ -1,3 +1,4 @@
+-- The loop over the pairs of digits.
 use Rattle.std.proofs.Common.{◌≡◌, true, ◌++◌, length, vec_items}
 use Rattle.words.specs.Hex.{all_hex, pairs_of}
 use Rattle.words.proofs.hex.decode.Given as goal

@@ -1,3 +1,4 @@
+-- What `parse` answers is the number of the word.
 use Rattle.std.proofs.Common.{sym, rules}
 use Rattle.words.proofs.Decimal.{number_none, parse_agrees, number_of_parse, decimals_read}
 use Rattle.words.proofs.numerals.number.Goals as goal

@@ -1,3 +1,4 @@
+-- The measure of the recursion.
 use Rattle.commands.proofs.stacks.Stack.+at_most.Given as goal
 
 -- one layer less at each slash

@@ -1,3 +1,4 @@
+-- At most two layers.
 use Rattle.commands.specs.Stacks.{stack_of}
 use Rattle.commands.proofs.Stacking.{stacks_read}
 use Rattle.commands.proofs.stacks.Stack.read.Goals as goal

@@ -1,3 +1,4 @@
+-- One number more, or the first word that is none.
 use Rattle.std.proofs.Common.{arith, sym, ◌∙◌, rules, w64, SFits}
 use Rattle.std.proofs.lemmas.Int.{to_z-of_z}
 use Rattle.words.specs.Read.{left}

@@ -1,3 +1,4 @@
+-- The loop over the eight coefficients.
 use Rattle.words.specs.Read.{left}
 use Rattle.words.proofs.Reading.{Reading}
 use Rattle.words.proofs.words.Words.coefficients.Given as goal
