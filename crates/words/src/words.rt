@@ -1,5 +1,6 @@
 // A line as words.
-ghost use Rattle.words.specs.Words.{Front, Handed, WordsRead};
+ghost use Rattle.words.specs.Words.{Front, Handed, words_of, WordsRead};
+ghost use Rattle.std.specs.Iterator.{YieldsFirstRef, item_count, MakesProgress};
 ghost use Rattle.std.specs.Prelude.{◌≡◌, false};
 
 // What stands between words: spaces, tabs and carriage returns.
@@ -26,9 +27,19 @@ impl<'a> Words<'a> {
     {
         Words { rest: line }
     }
+}
+
+impl<'a> Iterator for Words<'a> {
+    type Item = &'a str;
+
+    ghost next_gives = { YieldsFirstRef (λ w. words_of w.rest.now) };
+
+    ghost remaining = { item_count (λ w. words_of w.rest.now) };
 
     // The next word, or none where only separators are left.
-    pub fn next(&mut self) -> Option<&'a str>
+    fn next(&mut self) -> Option<&'a str>
+        ensures steps { YieldsFirstRef (λ w. words_of w.rest.now) self.old result self.new }
+        ensures goes { MakesProgress (λ _. Unit {0}) (item_count (λ w. words_of w.rest.now)) self.old result self.new }
         ensures handed { Handed result self.old.rest.now self.new.rest.now }
         ensures law { WordsRead }
     {
