@@ -1,10 +1,15 @@
 -- Words cut at their slashes, by the stacks that they write, and the law that stacks written are read again.
 use Rattle.std.proofs.Common.{◌≡◌, ℕ, zero, suc, ◌<◌, Bool, true, false, cond, List, [], ◌∷◌, ◌++◌, length, get_or, Some, None, codes, Option, sym, refl, ap, ◌∙◌, subst, ⊎_elim, arith}
+use Rattle.std.specs.Borrow.{Bor}
 use Rattle.std.specs.List.{AllByRecursion}
 use Rattle.std.specs.Str.{bytes_eq}
 use Rattle.std.proofs.ByRecursion.{All-from_get_or}
+use Rattle.std.proofs.lemmas.Option.{MatchOption-at_some}
+use Rattle.std.proofs.lemmas.Str.Pattern.{IsSplitOnceResult, split_parts}
 use Rattle.std.proofs.lemmas.Slice.Eq.{bytes_eq-Decides}
 use Rattle.std.proofs.lemmas.Bool.{cond-true, cond-false, ne_eqb, eqb-true, cases_Bool}
+use Rattle.words.specs.Words.{pieces, onto}
+use Rattle.words.proofs.Cuts.{pieces_whole, pieces_at_lem}
 use Rattle.commands.specs.declared.stacks.Base.{Base}
 use Rattle.commands.specs.declared.stacks.Base.TheVariants.{Multipliers, LookUp}
 use Rattle.commands.specs.declared.stacks.Layer.{Layer}
@@ -12,8 +17,6 @@ use Rattle.commands.specs.declared.stacks.Layer.TheVariants.{Cut, Split}
 use Rattle.commands.specs.declared.stacks.Stack.{Stack}
 use Rattle.commands.specs.declared.stacks.Stack.TheVariants.{Bare, Single, Double}
 use Rattle.commands.specs.Stacks.{slash, base_of, layer_of, over, of_base, stacked, stack_of, base_name, layer_name, names, slashed, stack_text, StacksRead}
-use Rattle.commands.specs.Words.{pieces, onto}
-use Rattle.commands.proofs.Cuts.{pieces_whole, pieces_at_lem}
 
 -- a choice between two names
 module _ {X : Type 0} (w a b : List ℕ) (x y : X) where
@@ -40,13 +43,30 @@ first_piece cut (y ∷ ys) =
 pub no_slash : (xs : List ℕ) → ((i : ℕ) → i < length xs → get_or xs i 0 ≡ 47 → ⊥) → AllByRecursion (λ b. slash b ≡ false) xs
 no_slash xs h = All-from_get_or (λ b. slash b ≡ false) xs 0 (λ i l. ne_eqb (get_or xs i 0) 47 (h i l))
 
+-- what `split_once` cuts a word into at its first slash
+pub split_some : (w : List ℕ) (r : Option (Bor (List ℕ) × Bor (List ℕ))) (x : Bor (List ℕ) × Bor (List ℕ)) → IsSplitOnceResult 47 w r → r ≡ Some x → (w ≡ x.0.now ++ 47 ∷ x.1.now) × AllByRecursion (λ b. slash b ≡ false) x.0.now
+split_some w r x h e = let parts = MatchOption-at_some _ _ _ e (split_parts 47 w r h (omega arith)) in (parts.0, no_slash x.0.now parts.1)
+
 -- a word with a slash: a layer over a stack
-pub stacked_over : (n : ℕ) (w top below : List ℕ) → w ≡ top ++ 47 ∷ below → AllByRecursion (λ b. slash b ≡ false) top → stacked (suc n) (pieces slash w) ≡ over (layer_of top) (stacked n (pieces slash below))
-stacked_over n w top below e clean =
-    let p = first_piece slash below in
-    ap (λ l. stacked (suc n) (pieces slash l)) e
-    ∙ ap (stacked (suc n)) (pieces_at_lem slash top below 47 clean refl ∙ ap (λ ps. top ∷ ps) p.1.1)
-    ∙ ap (λ ps. over (layer_of top) (stacked n ps)) (sym p.1.1)
+module _ (w top below : List ℕ) (e : w ≡ top ++ 47 ∷ below) (clean : AllByRecursion (λ b. slash b ≡ false) top) where
+  cut_once : (layers : ℕ) → stacked layers (pieces slash w) ≡ stacked layers (top ∷ pieces slash below)
+  cut_once layers = ap (λ l. stacked layers (pieces slash l)) e ∙ ap (stacked layers) (pieces_at_lem slash top below 47 clean refl)
+
+  -- for which there is no room
+  pub stacked_none : (layers : ℕ) → layers ≡ 0 → stacked layers (pieces slash w) ≡ None
+  stacked_none layers z =
+      let p = first_piece slash below in
+      cut_once layers ∙ ap (λ n. stacked n (top ∷ pieces slash below)) z ∙ ap (λ ps. stacked 0 (top ∷ ps)) p.1.1
+
+  pub stacked_over : (layers n : ℕ) → layers ≡ suc n → stacked layers (pieces slash w) ≡ over (layer_of top) (stacked n (pieces slash below))
+  stacked_over layers n more =
+      let p = first_piece slash below in
+      cut_once layers ∙ ap (λ m. stacked m (top ∷ pieces slash below)) more
+      ∙ ap (λ ps. stacked (suc n) (top ∷ ps)) p.1.1 ∙ ap (λ ps. over (layer_of top) (stacked n ps)) (sym p.1.1)
+
+pub over_none : (o : Option Layer) → over o None ≡ None
+over_none None = refl
+over_none (Some l) = refl
 
 -- a word with none: a base
 pub stacked_base : (n : ℕ) (w : List ℕ) → AllByRecursion (λ b. slash b ≡ false) w → stacked n (pieces slash w) ≡ of_base (base_of w)
@@ -70,17 +90,6 @@ rejoined_more b bs q qs e rest = ⊎_elim at_slash inside (cases_Bool (slash b))
 rejoined : (w : List ℕ) → slashed (pieces slash w) ≡ w
 rejoined [] = refl
 rejoined (b ∷ bs) = let p = first_piece slash bs in rejoined_more b bs p.0 p.1.0 p.1.1 (ap slashed (sym p.1.1) ∙ rejoined bs)
-
--- the last name of a word is a base, or the word writes no stack
-pub base_alone : (w : List ℕ) → stacked 0 (pieces slash w) ≡ of_base (base_of w)
-base_alone w =
-    choice_cases w (codes "multipliers") (codes "look-up") Multipliers LookUp (λ o. stacked 0 (pieces slash w) ≡ of_base o)
-    (λ e. ap (λ l. stacked 0 (pieces slash l)) e) (λ e. ap (λ l. stacked 0 (pieces slash l)) e) (λ none. alone none (pieces slash w) (rejoined w))
-  where
-    alone : base_of w ≡ None → (ps : List (List ℕ)) → slashed ps ≡ w → stacked 0 ps ≡ None
-    alone none [] e = refl
-    alone none (p ∷ []) e = ap (λ l. of_base (base_of l)) e ∙ ap of_base none
-    alone none (p ∷ q ∷ ps) e = refl
 
 -- names that write a stack are the stack's
 none_some : {X : Type 0} {x : X} → None ≡ Some x → ⊥

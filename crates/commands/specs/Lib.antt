@@ -1,8 +1,4 @@
-pub mod Texts
 pub mod Names
-pub mod Words
-pub mod Numerals
-pub mod Hex
 pub mod Stacks
 pub mod Lines
 pub mod Saying

@@ -1,16 +1,15 @@
 -- What a line says: which command with which arguments, or the first thing that is wrong with it.
-use Rattle.std.specs.Prelude.{ℕ, zero, suc, cond, List, [], ◌∷◌, ◌++◌, take, ℤ, pos, negsuc, Some, None, Ok, Err, codes, Option, Result, ◌==◌, nat_le, slice_index, slice_index_or}
+use Rattle.std.specs.Prelude.{ℕ, cond, List, [], ◌∷◌, ℤ, pos, negsuc, Some, None, Ok, Err, codes, Option, Result, ◌==◌, nat_le, slice_index}
 use Rattle.rows.specs.declared.numbers.Numbers.{Numbers}
-use Rattle.commands.specs.declared.errors.LineError.{LineError}
-use Rattle.commands.specs.declared.errors.LineError.TheVariants.{UnknownCommand, TooFewWords, TooManyWords, SheetRows, MissingMethod, UnknownMethod, MissingHex}
+use Rattle.words.specs.declared.errors.LineError.{LineError}
+use Rattle.words.specs.declared.errors.LineError.TheVariants.{UnknownCommand, SheetRows, MissingMethod, UnknownMethod}
+use Rattle.words.specs.Arguments.{and_then, rest_of, ended, first_number, first_hex, nine_numbers}
+use Rattle.words.specs.Words.{words_of}
 use Rattle.commands.specs.declared.parser.Keyword.{Keyword}
 use Rattle.commands.specs.declared.parser.Keyword.TheVariants.{Sheet, Fact, Goal, Forget, Row, Ask}
 use Rattle.commands.specs.declared.stacks.Stack.{Stack}
-use Rattle.commands.specs.Hex.{hex_bytes, checked}
 use Rattle.commands.specs.Names.{named}
-use Rattle.commands.specs.Numerals.{number_of}
 use Rattle.commands.specs.Stacks.{stack_of}
-use Rattle.commands.specs.Words.{words_of}
 
 -- a command with its arguments; bytes stand as the word that writes them
 pub data Line : Type 0 where
@@ -22,26 +21,6 @@ pub data Line : Type 0 where
   make_row : Numbers → Line
   ask_method : Stack → List ℕ → Line
 
--- one reading after another: the first error counts
-abbrev pub and_then : {X Y : Type 0} → Result X LineError → (X → Result Y LineError) → Result Y LineError
-and_then (Ok x) f = f x
-and_then (Err e) f = Err e
-
--- the words behind the first
-abbrev pub rest_of : List (List ℕ) → List (List ℕ)
-rest_of [] = []
-rest_of (w ∷ ws) = ws
-
--- the value, where no word is left
-abbrev pub ended : {X : Type 0} → X → List (List ℕ) → Result X LineError
-ended x [] = Ok x
-ended x (w ∷ ws) = Err TooManyWords
-
--- the first word as a number
-abbrev pub first_number : List (List ℕ) → Result ℤ LineError
-first_number [] = Err TooFewWords
-first_number (w ∷ ws) = number_of w
-
 -- the first word as a stack of methods
 abbrev pub method_of : Option Stack → Result Stack LineError
 method_of None = Err UnknownMethod
@@ -50,23 +29,6 @@ method_of (Some s) = Ok s
 abbrev pub first_method : List (List ℕ) → Result Stack LineError
 first_method [] = Err MissingMethod
 first_method (w ∷ ws) = method_of (stack_of w)
-
--- the first word as one that writes bytes
-abbrev pub first_hex : List (List ℕ) → Result (List ℕ) LineError
-first_hex [] = Err MissingHex
-first_hex (w ∷ ws) = checked (hex_bytes w) w
-
--- so many numbers behind those that were read, and no word more
-abbrev pub numbers_after : List ℤ → ℕ → List (List ℕ) → Result (List ℤ) LineError
-numbers_after done zero ws = ended done ws
-numbers_after done (suc n) ws = and_then (first_number ws) (λ z. numbers_after (done ++ z ∷ []) n (rest_of ws))
-
--- nine numbers: eight coefficients and a bound
-abbrev pub shape : List ℤ → Numbers
-shape zs = record { coefficients = take 8 zs; bound = slice_index_or zs 8 (pos 0) }
-
-unfoldable pub nine_numbers : List (List ℕ) → Result Numbers LineError
-nine_numbers ws = and_then (numbers_after [] 9 ws) (λ zs. Ok (shape zs))
 
 -- the most rows of a sheet
 abbrev pub most_rows : ℕ

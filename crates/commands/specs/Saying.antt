@@ -1,16 +1,11 @@
 -- Commands written as lines, and the law that a command that is written is read again.
-use Rattle.std.specs.Prelude.{◌≡◌, ℕ, ◌^◌, ◌<◌, ◌≤◌, true, List, [], ◌∷◌, ◌++◌, map, length, ℤ, is_ok, Ok, codes, decimal}
-use Rattle.std.specs.Int.Signed.{mag}
+use Rattle.std.specs.Prelude.{◌≡◌, ℕ, ◌<◌, ◌≤◌, true, List, [], ◌∷◌, map, length, is_ok, Ok, codes, decimal}
 use Rattle.std.specs.Fmt.{signed_decimal}
-use Rattle.std.specs.List.{AllByRecursion}
-use Rattle.rows.specs.declared.numbers.Numbers.{Numbers}
-use Rattle.commands.specs.Hex.{hex_bytes}
+use Rattle.words.specs.Arguments.{items_of, Nine}
+use Rattle.words.specs.Hex.{hex_bytes}
+use Rattle.words.specs.Words.{spaced}
 use Rattle.commands.specs.Lines.{Line, nothing, set_sheet, add_fact, set_goal, forget_all, make_row, ask_method, most_rows, line_of}
 use Rattle.commands.specs.Stacks.{stack_text}
-use Rattle.commands.specs.Words.{spaced}
-
-abbrev pub items_of : Numbers → List ℤ
-items_of r = r.coefficients ++ r.bound ∷ []
 
 -- the words of a command
 abbrev pub line_words : Line → List (List ℕ)
@@ -21,10 +16,6 @@ line_words (set_goal r) = codes "goal" ∷ map signed_decimal (items_of r)
 line_words forget_all = codes "forget" ∷ []
 line_words (make_row r) = codes "row" ∷ map signed_decimal (items_of r)
 line_words (ask_method s w) = codes "ask" ∷ stack_text s ∷ w ∷ []
-
--- eight coefficients and a bound, each from -2^63 to 2^63 - 1
-abbrev pub Nine : Numbers → Type 0
-Nine r = (length r.coefficients ≡ 8) × AllByRecursion (λ z. mag z < 2 ^ 63) (items_of r)
 
 -- what the arguments of a command may be
 abbrev pub Sayable : Line → Type 0

@@ -1,5 +1,6 @@
 -- Stacks of proof methods as they are written: top first, with a slash between, and at most two layers over a base.
 use Rattle.std.specs.Prelude.{◌≡◌, ℕ, zero, suc, Bool, List, [], ◌∷◌, ◌++◌, Some, None, codes, Option, ◌==◌}
+use Rattle.words.specs.Words.{pieces}
 use Rattle.commands.specs.declared.stacks.Base.{Base}
 use Rattle.commands.specs.declared.stacks.Base.TheVariants.{Multipliers, LookUp}
 use Rattle.commands.specs.declared.stacks.Layer.{Layer}
@@ -7,7 +8,6 @@ use Rattle.commands.specs.declared.stacks.Layer.TheVariants.{Cut, Split}
 use Rattle.commands.specs.declared.stacks.Stack.{Stack}
 use Rattle.commands.specs.declared.stacks.Stack.TheVariants.{Bare, Single, Double}
 use Rattle.commands.specs.Names.{named}
-use Rattle.commands.specs.Words.{pieces}
 
 abbrev pub slash : ℕ → Bool
 slash b = b == 47

@@ -1,14 +1,14 @@
 // What a line says.
-ghost use Rattle.commands.specs.Lines.{keyword_of, line_by, sheet_rows, sheet_line, ask_line, line_of};
-ghost use Rattle.commands.specs.Read.{left, says_in};
+ghost use Rattle.commands.specs.Lines.{first_method, keyword_of, line_by, sheet_rows, sheet_line, ask_line, line_of};
+ghost use Rattle.commands.specs.Read.{says_in};
 ghost use Rattle.commands.specs.Saying.{LinesRead};
+ghost use Rattle.words.specs.Arguments.{rest_of};
+ghost use Rattle.words.specs.Read.{left};
 ghost use Rattle.std.specs.Prelude.{◌≡◌};
 
-use crate::errors::LineError;
-use crate::hex::Hex;
 use crate::stacks::Stack;
-use crate::words::Words;
 use rows::Numbers;
+use words::{Hex, LineError, Words};
 
 // The most rows that a sheet may have.
 pub const SHEET_ROWS: i64 = 64;
@@ -44,7 +44,8 @@ enum Keyword {
 }
 
 impl Keyword {
-    // The keyword that a word is.
+    // The keyword that a word is. An Option says all: FromStr would need an error type that says no more.
+    #[tactic(auto, using(crate::proofs::Parsing::unlike))]
     fn read(word: &str) -> Option<Keyword>
         ensures { result ≡ keyword_of word.now }
     {
@@ -67,10 +68,7 @@ impl Keyword {
             Keyword::Sheet => sheet(words),
             Keyword::Fact => Ok(Command::Fact(words.numbers()?)),
             Keyword::Goal => Ok(Command::Goal(words.numbers()?)),
-            Keyword::Forget => {
-                words.end()?;
-                Ok(Command::Forget)
-            }
+            Keyword::Forget => words.end().map(|()| Command::Forget),
             Keyword::Row => Ok(Command::Row(words.numbers()?)),
             Keyword::Ask => ask(words),
         }
@@ -81,10 +79,10 @@ impl Keyword {
 fn sheet_rows(rows: i64) -> Result<usize, LineError>
     ensures { result ≡ sheet_rows rows }
 {
-    if rows < 0 || rows > SHEET_ROWS {
+    if rows > SHEET_ROWS {
         return Err(LineError::SheetRows);
     }
-    Ok(rows as usize)
+    usize::try_from(rows).map_err(|_| LineError::SheetRows)
 }
 
 // A number of rows.
@@ -96,11 +94,20 @@ fn sheet(mut words: Words<'_>) -> Result<Command<'_>, LineError>
     Ok(Command::Sheet(sheet_rows(rows)?))
 }
 
+// The next word as a stack of methods.
+fn method(words: &mut Words<'_>) -> Result<Stack, LineError>
+    ensures value { result ≡ first_method (left words.old) }
+    ensures after { left words.new ≡ rest_of (left words.old) }
+{
+    let word = words.next().ok_or(LineError::MissingMethod)?;
+    Stack::read(word).ok_or(LineError::UnknownMethod)
+}
+
 // A stack of methods and a certificate.
 fn ask(mut words: Words<'_>) -> Result<Command<'_>, LineError>
     ensures { says_in result ≡ ask_line (left words.entry) }
 {
-    let stack = words.method()?;
+    let stack = method(&mut words)?;
     let certificate = words.hex()?;
     words.end()?;
     Ok(Command::Ask { stack, certificate })
@@ -118,8 +125,6 @@ pub fn parse(line: &str) -> Result<Command<'_>, LineError>
     if first.starts_with('#') {
         return Ok(Command::Nothing);
     }
-    match Keyword::read(first) {
-        Some(keyword) => keyword.command(words),
-        None => Err(LineError::UnknownCommand),
-    }
+    let keyword = Keyword::read(first).ok_or(LineError::UnknownCommand)?;
+    keyword.command(words)
 }

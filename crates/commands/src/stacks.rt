@@ -1,7 +1,7 @@
 // Stacks of proof methods as they are written.
-ghost use Rattle.commands.specs.Stacks.{base_of, layer_of, of_base, over, slash, stacked, stack_of, StacksRead};
-ghost use Rattle.commands.specs.Words.{pieces};
-ghost use Rattle.std.specs.Prelude.{◌≡◌};
+ghost use Rattle.commands.specs.Stacks.{base_of, layer_of, over, slash, stacked, stack_of, StacksRead};
+ghost use Rattle.words.specs.Words.{pieces};
+ghost use Rattle.std.specs.Prelude.{◌≡◌, Some};
 
 // A method that stands alone.
 #[derive(Clone, Copy, PartialEq, Eq, Debug)]
@@ -26,7 +26,8 @@ pub enum Stack {
 }
 
 impl Base {
-    // The base of that name.
+    // The base of that name. An Option says all: FromStr would need an error type that says no more.
+    #[tactic(auto, using(crate::proofs::Parsing::unlike))]
     fn read(name: &str) -> Option<Base>
         ensures { result ≡ base_of name.now }
     {
@@ -39,7 +40,8 @@ impl Base {
 }
 
 impl Layer {
-    // The layer of that name.
+    // The layer of that name. An Option, as for a base.
+    #[tactic(auto, using(crate::proofs::Parsing::unlike))]
     fn read(name: &str) -> Option<Layer>
         ensures { result ≡ layer_of name.now }
     {
@@ -52,43 +54,33 @@ impl Layer {
 }
 
 impl Stack {
-    // The stack of a base alone.
-    fn bare(name: &str) -> Option<Stack>
-        ensures { result ≡ of_base (base_of name.now) }
+    // The stack with a layer on top, if it has room.
+    fn under(self, top: Layer) -> Option<Stack>
+        ensures { result ≡ over (Some top) (Some self) }
     {
-        Some(Stack::Bare(Base::read(name)?))
-    }
-
-    // The stack with the layer of that name on top, if it has room.
-    fn layered(name: &str, below: Option<Stack>) -> Option<Stack>
-        ensures { result ≡ over (layer_of name.now) below }
-    {
-        let top = Layer::read(name)?;
-        match below? {
+        match self {
             Stack::Bare(base) => Some(Stack::Single(top, base)),
             Stack::Single(layer, base) => Some(Stack::Double(top, layer, base)),
             Stack::Double(_, _, _) => None,
         }
     }
 
-    // The stack of at most one layer that a word writes.
-    fn single(word: &str) -> Option<Stack>
-        ensures { result ≡ stacked 1 (pieces slash word.now) }
+    // The stack of at most so many layers that a word writes.
+    fn at_most(layers: usize, word: &str) -> Option<Stack>
+        ensures { result ≡ stacked layers (pieces slash word.now) }
     {
-        match word.split_once('/') {
-            Some((top, below)) => Stack::layered(top, Stack::bare(below)),
-            None => Stack::bare(word),
-        }
+        let Some((top, below)) = word.split_once('/') else {
+            return Some(Stack::Bare(Base::read(word)?));
+        };
+        let below = Stack::at_most(layers.checked_sub(1)?, below)?;
+        below.under(Layer::read(top)?)
     }
 
-    // The stack that a word writes, if it writes one: names, top first, with a slash between.
+    // The stack that a word writes, if it writes one: names, top first, with a slash between. An Option, as for a base.
     pub fn read(word: &str) -> Option<Stack>
         ensures value { result ≡ stack_of word.now }
         ensures law { StacksRead }
     {
-        match word.split_once('/') {
-            Some((top, below)) => Stack::layered(top, Stack::single(below)),
-            None => Stack::bare(word),
-        }
+        Stack::at_most(2, word)
     }
 }

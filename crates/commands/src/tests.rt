@@ -1,6 +1,6 @@
-// Every kind of line, every error and every printed form once.
+// Every kind of line and every error once.
 use crate::*;
-use rows::{Fault, FaultKind, Numbers};
+use rows::Numbers;
 use std::test::Fail;
 
 fn nine() -> Numbers {
@@ -75,52 +75,4 @@ fn question_errors(rt: HostRuntime) {
     assert_eq!(rt; parse("ask look-up 0g"), Err(LineError::NoHexDigit));
     assert_eq!(rt; parse("ask look-up 000"), Err(LineError::OddHexDigits));
     assert_eq!(rt; parse("ask look-up - -"), Err(LineError::TooManyWords));
-}
-
-#[test]
-fn printed(rt: HostRuntime) -> Result<(), Fail> {
-    let heap = rt.alloc();
-    let fault = Fault {
-        kind: FaultKind::ColumnDiffers,
-        place: 12,
-        depth: 1,
-        item: 7,
-    };
-    assert_eq!(rt;
-        Reply {
-            success: Success::Yes,
-            answer: Ok(()),
-        }
-        .text(heap)?
-        .as_str(),
-        "yes"
-    );
-    assert_eq!(rt;
-        Reply {
-            success: Success::Done,
-            answer: Ok(()),
-        }
-        .text(heap)?
-        .as_str(),
-        "ok"
-    );
-    assert_eq!(rt;
-        Reply {
-            success: Success::Yes,
-            answer: Err(fault),
-        }
-        .text(heap)?
-        .as_str(),
-        "refused 55 at 12 layer 1 item 7"
-    );
-    assert_eq!(rt;
-        ErrorLine {
-            line: 3,
-            error: LineError::NotANumber,
-        }
-        .text(heap)?
-        .as_str(),
-        "error line 3: not a number"
-    );
-    Ok(())
 }

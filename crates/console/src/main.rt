@@ -1,7 +1,7 @@
 // The console: one command a line on standard input, one answer a line on standard output.
 #![tactic(auto)]
 
-use commands::ErrorLine;
+use replies::ErrorLine;
 use session::Session;
 use std::io;
 use std::io::{BufRead, BufReader};

@@ -17,8 +17,7 @@ impl fmt::Display for ErrorLine {
     ghost output = { λ x. Some (error_text x.line x.error) };
 
     fn fmt<W: fmt::Write>(&self, f: &mut fmt::Formatter<W>) -> fmt::Result {
-        let line = self.line;
-        let error = self.error;
+        let ErrorLine { line, error } = *self;
         write!(f, "error line {line}: {error}")
     }
 }
@@ -28,6 +27,6 @@ impl ErrorLine {
     pub fn text(&self, heap: Global) -> Result<String, AllocError>
         ensures { IfOk result (λ t. string_bytes t ≡ error_text self.now.line self.now.error) }
     {
-        format!(in heap; "{self}")
+        self.to_string(heap)
     }
 }

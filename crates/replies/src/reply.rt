@@ -20,11 +20,13 @@ impl fmt::Display for TableRead {
     ghost output = { λ t. Some (table_text t) };
 
     fn fmt<W: fmt::Write>(&self, f: &mut fmt::Formatter<W>) -> fmt::Result {
-        let values = self.values;
-        let choices = self.choices;
-        let start = self.start;
-        let initial = self.initial;
-        let transitions = self.transitions;
+        let TableRead {
+            values,
+            choices,
+            start,
+            initial,
+            transitions,
+        } = *self;
         write!(
             f,
             "ok: values {values} choices {choices} start {start} initial {initial} transitions {transitions}"
@@ -43,8 +45,7 @@ impl fmt::Display for WitnessRead {
     ghost output = { λ w. Some (witness_text w) };
 
     fn fmt<W: fmt::Write>(&self, f: &mut fmt::Formatter<W>) -> fmt::Result {
-        let places = self.places;
-        let inners = self.inners;
+        let WitnessRead { places, inners } = *self;
         write!(f, "ok: places {places} inner {inners}")
     }
 }
@@ -67,16 +68,20 @@ impl fmt::Display for Reply {
     ghost output = { λ x. Some (reply_text x) };
 
     fn fmt<W: fmt::Write>(&self, f: &mut fmt::Formatter<W>) -> fmt::Result {
-        match *self {
+        match self {
             Reply::Yes => f.write_str("yes"),
             Reply::Done => f.write_str("ok"),
             Reply::Table(table) => table.fmt(f),
             Reply::Witness(witness) => witness.fmt(f),
-            Reply::Refused(fault) => {
-                let number = fault.kind.number();
-                let place = fault.place;
-                let depth = fault.depth;
-                let item = fault.item;
+            Reply::Refused(
+                Fault {
+                    kind,
+                    place,
+                    depth,
+                    item,
+                },
+            ) => {
+                let number = kind.number();
                 write!(f, "refused {number} at {place} layer {depth} item {item}")
             }
         }
@@ -98,6 +103,6 @@ impl Reply {
     pub fn text(&self, heap: Global) -> Result<String, AllocError>
         ensures { IfOk result (λ t. string_bytes t ≡ reply_text self.now) }
     {
-        format!(in heap; "{self}")
+        self.to_string(heap)
     }
 }

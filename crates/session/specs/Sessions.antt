@@ -6,13 +6,13 @@ use Rattle.rows.specs.Limits.{columns}
 use Rattle.methods.specs.Cuts.{tabulate}
 use Rattle.methods.specs.Openings.{row_says}
 use Rattle.methods.specs.Questions.{asked}
-use Rattle.commands.specs.declared.errors.LineError.{LineError}
-use Rattle.commands.specs.declared.errors.LineError.TheVariants.{NotText, FactsFull, OutOfMemory}
-use Rattle.commands.specs.declared.replies.Reply.{Reply}
-use Rattle.commands.specs.declared.replies.Success.{Success}
-use Rattle.commands.specs.declared.replies.Success.TheVariants.{Yes, Done}
+use Rattle.words.specs.declared.errors.LineError.{LineError}
+use Rattle.words.specs.declared.errors.LineError.TheVariants.{NotText, FactsFull, OutOfMemory}
+use Rattle.words.specs.Hex.{hex_bytes}
+use Rattle.replies.specs.declared.reply.Reply.{Reply}
+use Rattle.replies.specs.declared.reply.Reply.TheVariants.{Yes, Done}
+use Rattle.replies.specs.Texts.{unless_refused}
 use Rattle.commands.specs.declared.stacks.Stack.{Stack}
-use Rattle.commands.specs.Hex.{hex_bytes}
 use Rattle.commands.specs.Lines.{Line, nothing, set_sheet, add_fact, set_goal, forget_all, make_row, ask_method, line_of}
 use Rattle.session.specs.declared.session.Session.{Session}
 use Rattle.session.specs.Chosen.{stack_says}
@@ -41,11 +41,9 @@ most_held = 1000
 abbrev pub sheet_of : List Numbers → ℕ → List Numbers
 sheet_of facts rows = tabulate (λ i. slice_index_or facts i zeros) rows
 
-abbrev pub reply_of : Success → Said → Reply
-reply_of word said = record { success = word; answer = said }
-
-abbrev pub reply : Success → Said → Result (Option Reply) LineError
-reply word said = Ok (Some (reply_of word said))
+-- a reply, or in its place the refusal
+abbrev pub reply : Reply → Said → Result (Option Reply) LineError
+reply word said = Ok (Some (unless_refused word said))
 
 -- the answer to a question with a certificate that was written as a word
 abbrev pub asked_with : Model → Stack → Result (List ℕ) LineError → Result Said LineError

@@ -1,19 +1,22 @@
 // What the console holds between two lines: the facts, the goal and the size of the fact sheet.
-ghost use Rattle.std.specs.Prelude.{◌≡◌, ℕ, IfOk, slice_index_or};
-ghost use Rattle.session.specs.Sessions.{model_of, fresh, asked_with, Answered, Ran, LineRan, sheet_of, zeros, reply_of};
+ghost use Rattle.std.specs.Prelude.{◌≡◌, IfOk};
+ghost use Rattle.session.specs.Sessions.{model_of, fresh, asked_with, Answered, Ran, LineRan, sheet_of};
 ghost use Rattle.commands.specs.Lines.{add_fact};
 ghost use Rattle.commands.specs.Read.{says};
-ghost use Rattle.commands.specs.declared.replies.Success.TheVariants.{Done};
+ghost use Rattle.replies.specs.Texts.{unless_refused};
+ghost use Rattle.replies.specs.declared.reply.Reply.TheVariants.{Done};
 ghost use Rattle.methods.specs.Openings.{row_says};
-ghost use Rattle.commands.specs.Hex.{hex_bytes};
+ghost use Rattle.words.specs.Hex.{hex_bytes};
 
 use crate::stacks::named_stack;
-use commands::{Command, Hex, LineError, Reply, Stack, Success, parse};
+use commands::{Command, Stack, parse};
 use methods::{Claim, ProofMethod};
+use replies::Reply;
 use rows::limits::COLUMNS;
 use rows::{Answer, Numbers, Row};
 use std::alloc::{AllocError, Global};
 use std::str::from_utf8;
+use words::{Hex, LineError};
 
 // The most facts that are held.
 pub const MOST_HELD: usize = 1_000;
@@ -47,25 +50,12 @@ impl Session {
         }
     }
 
-    // The fact of an index, or zeros where there is none.
-    fn held(&self, i: usize) -> Numbers
-        ensures { result ≡ slice_index_or self.now.facts.items i zeros }
-    {
-        if i < self.facts.len() {
-            self.facts[i]
-        } else {
-            ZEROS
-        }
-    }
-
     // The fact sheet: the facts, as many as it has rows, and rows of zeros behind them.
     fn sheet(&self, heap: Global) -> Result<Vec<Numbers>, AllocError>
         ensures { IfOk result (λ v. v.items ≡ sheet_of self.now.facts.items self.now.rows) }
     {
-        let mut sheet = Vec::new(heap);
-        for i in 0..self.rows {
-            sheet.push(self.held(i))?;
-        }
+        let mut sheet = Vec::from_slice(heap, &self.facts)?;
+        sheet.resize(self.rows, ZEROS)?;
         Ok(sheet)
     }
 }
@@ -93,10 +83,8 @@ impl Session {
         if self.facts.len() >= MOST_HELD {
             return Err(LineError::FactsFull);
         }
-        match self.facts.push(fact) {
-            Ok(()) => Ok(DONE),
-            Err(_) => Err(LineError::OutOfMemory),
-        }
+        self.facts.push(fact).map_err(|_| LineError::OutOfMemory)?;
+        Ok(DONE)
     }
 
     // Does a command: what is answered, if anything.
@@ -122,10 +110,7 @@ impl Session {
             Command::Row(numbers) => Ok(Some(row_reply(numbers))),
             Command::Ask { stack, certificate } => {
                 let answer = self.ask(heap, stack, certificate)?;
-                Ok(Some(Reply {
-                    success: Success::Yes,
-                    answer,
-                }))
+                Ok(Some(Reply::Yes.unless_refused(answer)))
             }
         }
     }
@@ -136,29 +121,17 @@ impl Session {
     pub fn answer(&mut self, heap: Global, line: &[u8]) -> Result<Option<Reply>, LineError>
         ensures { LineRan line.now (model_of self.old) (model_of self.new) result }
     {
-        match from_utf8(line) {
-            Ok(text) => self.run(heap, parse(text)?),
-            Err(_) => Err(LineError::NotText),
-        }
+        let text = from_utf8(line).map_err(|_| LineError::NotText)?;
+        self.run(heap, parse(text)?)
     }
 }
 
 // What is answered to a command that cannot be refused.
-const DONE: Option<Reply> = Some(Reply {
-    success: Success::Done,
-    answer: Ok(()),
-});
+const DONE: Option<Reply> = Some(Reply::Done);
 
 // Whether the numbers are a row.
 fn row_reply(numbers: Numbers) -> Reply
-    ensures { result ≡ reply_of Done (row_says numbers) }
+    ensures { result ≡ unless_refused Done (row_says numbers) }
 {
-    let answer = match Row::new(numbers) {
-        Ok(_) => Ok(()),
-        Err(fault) => Err(fault),
-    };
-    Reply {
-        success: Success::Done,
-        answer,
-    }
+    Reply::Done.unless_refused(Row::new(numbers).map(|_| ()))
 }

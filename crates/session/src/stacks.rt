@@ -6,7 +6,7 @@ use commands::{Base, Layer, Stack};
 use methods::{Claim, Cut, LookUp, Multipliers, ProofMethod, Split};
 use rows::{Answer, Numbers};
 
-// A method that stands alone.
+// A method that stands alone. An enum and no dyn value, since none may be made here and handed out.
 #[derive(Clone, Copy)]
 pub enum BaseMethod {
     Multipliers(Multipliers),

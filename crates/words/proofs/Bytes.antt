@@ -1,11 +1,10 @@
--- Hexadecimal digits: what a word writes by cases, one pair more, and the law that bytes written are read again.
-use Rattle.std.proofs.Common.{◌≡◌, ℕ, zero, suc, ◌+◌, ◌*◌, ◌/◌, ◌%◌, ◌<◌, Bool, true, false, cond, eqb, ◌⊎◌, List, [], ◌∷◌, ◌++◌, length, get_or, drop, Ok, Err, codes, Result, sym, refl, ap, ◌∙◌, inl, inr, ⊎_elim, append_assoc, arith}
+-- Hexadecimal digits: what a word writes by cases, and the law that bytes written are read again.
+use Rattle.std.proofs.Common.{◌≡◌, ℕ, ◌+◌, ◌*◌, ◌/◌, ◌%◌, ◌<◌, Bool, true, false, cond, eqb, ◌⊎◌, List, [], ◌∷◌, length, Ok, Err, codes, Result, sym, refl, ap, ◌∙◌, inl, inr, ⊎_elim, arith}
 use Rattle.std.specs.Char.{is_ascii_hexdigit, digit_value, digit_char}
 use Rattle.std.specs.List.{AllByRecursion}
 use Rattle.std.specs.Str.{bytes_eq}
 use Rattle.std.proofs.lemmas.Slice.Eq.{bytes_eq-Decides}
-use Rattle.std.proofs.lemmas.List.{drop_more, length-drop}
-use Rattle.std.proofs.lemmas.Bool.{cond-true, cond-false, eq-eqb, ne_eqb, eqb-true, cases_Bool, and_parts, and_from, true≢false}
+use Rattle.std.proofs.lemmas.Bool.{cond-true, cond-false, eq-eqb, ne_eqb, eqb-true, cases_Bool, and_from, true≢false}
 use Rattle.std.proofs.lemmas.Str.{digit_value-digit_char}
 use Rattle.std.proofs.lemmas.Bool.Decides.{nat_tests, not_from_Decides}
 use Rattle.words.specs.declared.errors.LineError.{LineError}
@@ -15,15 +14,13 @@ use Rattle.words.specs.Hex.{all_hex, pairs_of, digits_only, digit_bytes, hex_byt
 pub digit_small : (c : ℕ) → is_ascii_hexdigit c ≡ true → digit_value c < 16
 digit_small c h = grind (arith, nat_tests)
 
-pub hex_at : (bs : List ℕ) (i : ℕ) → all_hex bs ≡ true → i < length bs → is_ascii_hexdigit (get_or bs i 0) ≡ true
-hex_at [] i h l = absurd (omega arith)
-hex_at (b ∷ bs) zero h l = (and_parts _ _ h).0
-hex_at (b ∷ bs) (suc i) h l = hex_at bs i (and_parts (is_ascii_hexdigit b) _ h).1 (omega arith)
-
 -- a word by cases
-pub hex_dash : (w : List ℕ) → w ≡ codes "-" → hex_bytes w ≡ Ok []
+hex_dash : (w : List ℕ) → w ≡ codes "-" → hex_bytes w ≡ Ok []
 unfolding hex_bytes
 hex_dash w e = cond-true (bytes_eq w (codes "-")) _ _ ((bytes_eq-Decides w (codes "-")).1 e)
+
+pub dash_checked : (w : List ℕ) → bytes_eq w (codes "-") ≡ true → checked (hex_bytes w) (tt {0}) ≡ Ok tt
+dash_checked w e = ap (λ r. checked r (tt {0})) (hex_dash w ((bytes_eq-Decides w (codes "-")).0 e))
 
 module _ (w : List ℕ) (other : w ≡ codes "-" → ⊥) where
   digits_only_lem : hex_bytes w ≡ digit_bytes w
@@ -32,13 +29,13 @@ module _ (w : List ℕ) (other : w ≡ codes "-" → ⊥) where
       ⊎_elim (λ t. absurd (other ((bytes_eq-Decides w (codes "-")).0 t))) (λ f. cond-false (bytes_eq w (codes "-")) _ _ f)
       (cases_Bool (bytes_eq w (codes "-")))
 
-  pub hex_not : all_hex w ≡ false → hex_bytes w ≡ Err NoHexDigit
+  hex_not : all_hex w ≡ false → hex_bytes w ≡ Err NoHexDigit
   hex_not e = digits_only_lem ∙ cond-false (all_hex w) _ _ e
 
-  pub hex_odd : all_hex w ≡ true → (length w % 2 ≡ 0 → ⊥) → hex_bytes w ≡ Err OddHexDigits
+  hex_odd : all_hex w ≡ true → (length w % 2 ≡ 0 → ⊥) → hex_bytes w ≡ Err OddHexDigits
   hex_odd e odd = digits_only_lem ∙ cond-true (all_hex w) _ _ e ∙ cond-false (eqb (length w % 2) 0) _ _ (ne_eqb _ 0 odd)
 
-  pub hex_pairs : all_hex w ≡ true → length w % 2 ≡ 0 → hex_bytes w ≡ Ok (pairs_of w)
+  hex_pairs : all_hex w ≡ true → length w % 2 ≡ 0 → hex_bytes w ≡ Ok (pairs_of w)
   hex_pairs e even = digits_only_lem ∙ cond-true (all_hex w) _ _ e ∙ cond-true (eqb (length w % 2) 0) _ _ (eq-eqb _ 0 even)
 
   -- the check of its digits is the check of the word
@@ -60,31 +57,19 @@ module _ (w : List ℕ) (other : w ≡ codes "-" → ⊥) where
       digits : all_hex w ≡ true → (all_hex w ≡ true) × (length w % 2 ≡ 0)
       digits t = (t, ⊎_elim (λ e. eqb-true _ 0 e) (λ f. absurd (refuse OddHexDigits (hex_odd t (λ z. true≢false (sym (eq-eqb _ 0 z) ∙ f))))) (cases_Bool (eqb (length w % 2) 0)))
 
--- one pair more
-pub pairs_more : (bs : List ℕ) (k : ℕ) → k + 1 < length bs → pairs_of (drop k bs) ≡ (16 * digit_value (get_or bs k 0) + digit_value (get_or bs (k + 1) 0)) ∷ pairs_of (drop (k + 2) bs)
-pairs_more bs k h =
-    let two : k + 1 + 1 ≡ k + 2 = omega arith in
-    ap pairs_of (drop_more bs k 0 (omega arith) ∙ ap (λ l. get_or bs k 0 ∷ l) (drop_more bs (k + 1) 0 h ∙ ap (λ n. get_or bs (k + 1) 0 ∷ drop n bs) two))
+-- a word that was checked, as the code tells a dash from digits
+pub dash_read : (w : List ℕ) → bytes_eq w (codes "-") ≡ true → hex_bytes w ≡ Ok []
+dash_read w e = hex_dash w ((bytes_eq-Decides w (codes "-")).0 e)
 
--- no pair is left
-pub pairs_end : (bs : List ℕ) (k : ℕ) → length bs < k + 2 → pairs_of (drop k bs) ≡ []
-pairs_end bs k h = short (drop k bs) (omega (arith, length-drop k bs))
-  where
-    short : (xs : List ℕ) → length xs < 2 → pairs_of xs ≡ []
-    short [] l = refl
-    short (x ∷ []) l = refl
-    short (x ∷ y ∷ xs) l = absurd (omega arith)
+module _ (w : List ℕ) (digits : bytes_eq w (codes "-") ≡ false) (fine : checked (hex_bytes w) (tt {0}) ≡ Ok tt) where
+  other : w ≡ codes "-" → ⊥
+  other = not_from_Decides _ (bytes_eq-Decides w (codes "-")) digits
 
--- one byte more, and the digits that are left behind its pair
-pub pairs_pushed : (bs xs ys : List ℕ) (i v : ℕ) → 2 * i + 1 < length bs → v ≡ 16 * digit_value (get_or bs (2 * i) 0) + digit_value (get_or bs (2 * i + 1) 0) → ys ≡ xs ++ v ∷ [] → xs ++ pairs_of (drop (2 * i) bs) ≡ pairs_of bs → ys ++ pairs_of (drop (2 * (i + 1)) bs) ≡ pairs_of bs
-pairs_pushed bs xs ys i v h e push inv =
-    let on : 2 * (i + 1) ≡ 2 * i + 2 = omega arith in
-    let next = pairs_more bs (2 * i) h in
-    (λ j. push j ++ pairs_of (drop (on j) bs))
-    ∙ append_assoc xs (v ∷ []) (pairs_of (drop (2 * i + 2) bs))
-    ∙ ap (λ n. xs ++ n ∷ pairs_of (drop (2 * i + 2) bs)) e
-    ∙ ap (λ l. xs ++ l) (sym next)
-    ∙ inv
+  pub digits_checked : all_hex w ≡ true
+  digits_checked = (hex_parts w other fine).0
+
+  pub digits_read : hex_bytes w ≡ Ok (pairs_of w)
+  digits_read = let parts = hex_parts w other fine in hex_pairs w other parts.0 parts.1
 
 -- bytes that are written are read again
 char_hex : (d : ℕ) → d < 16 → is_ascii_hexdigit (digit_char d) ≡ true
@@ -136,10 +121,10 @@ pub hex_reads : HexReads
 hex_reads = record { back = back; only = only }
 
 -- one check, with another value where it passes
-pub rechecked_ok : {X Y : Type 0} (r : Result (List ℕ) LineError) (x : X) (y : Y) → Ok x ≡ checked r x → checked r y ≡ Ok y
-rechecked_ok (Ok bs) x y h = refl
-rechecked_ok (Err e) x y h = let z : ◌≡◌ {A = ℕ} 0 1 = cc in absurd (omega arith)
+pub rechecked_ok : {X : Type 0} (r : Result (List ℕ) LineError) (x : X) → checked r (tt {0}) ≡ Ok tt → checked r x ≡ Ok x
+rechecked_ok (Ok bs) x h = refl
+rechecked_ok (Err e) x h = let z : ◌≡◌ {A = ℕ} 0 1 = cc in absurd (omega arith)
 
-pub rechecked_err : {X Y : Type 0} (r : Result (List ℕ) LineError) (x : X) (y : Y) (e : LineError) → Err e ≡ checked r x → checked r y ≡ Err e
-rechecked_err (Ok bs) x y e h = let z : ◌≡◌ {A = ℕ} 0 1 = cc in absurd (omega arith)
-rechecked_err (Err f) x y e h = cc
+pub rechecked_err : {X : Type 0} (r : Result (List ℕ) LineError) (x : X) (s : Result X LineError) (e : LineError) → checked r (tt {0}) ≡ Err e → s ≡ Err e → s ≡ checked r x
+rechecked_err (Ok bs) x s e h k = let z : ◌≡◌ {A = ℕ} 0 1 = cc in absurd (omega arith)
+rechecked_err (Err f) x s e h k = let same : e ≡ f = cc in k ∙ ap Err same

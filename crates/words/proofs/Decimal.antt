@@ -1,15 +1,19 @@
 -- Numbers written in decimal, and what `parse` says of a word.
-use Rattle.std.proofs.Common.{◌≡◌, ℕ, zero, suc, ◌+◌, ◌^◌, ◌<◌, ◌≤◌, true, false, cond, not, ◌&&◌, eqb, List, [], ◌∷◌, length, get_or, drop, ℤ, pos, negsuc, neg_ℤ, is_some, Some, None, Ok, Err, decimal, Option, Result, sym, refl, ap, ◌∙◌, ⊎_elim, arith, w64, rules}
+use Rattle.std.proofs.Common.{◌≡◌, ℕ, zero, suc, ◌^◌, ◌<◌, ◌≤◌, true, false, cond, ◌&&◌, eqb, List, [], ◌∷◌, length, get_or, ℤ, pos, negsuc, neg_ℤ, is_some, unwrap_or, MatchOption, MatchResult, IsErrAnd, Some, None, Ok, Err, decimal, Option, Result, sym, refl, ap, ◌∙◌, ⊎_elim, arith, w64, rules}
 use lib.Signed.{mag}
+use Rattle.std.specs.Borrow.{Bor}
+use Rattle.std.specs.List.{list_all}
 use Rattle.std.specs.Result.{OkIff}
 use Rattle.std.specs.Str.Parse.{ParsesSigned}
+use Rattle.std.specs.Str.Pattern.{FindsCharPrefix, StripsPrefix}
+use Rattle.std.proofs.lemmas.Str.Pattern.{strip_prefix_char}
 use Rattle.std.specs.Char.{is_ascii_digit}
 use Rattle.std.specs.Str.{all_ascii_digits}
 use Rattle.std.proofs.lemmas.Fmt.{digits_decimal, digits_value-decimal, decimal_nonempty}
-use Rattle.std.proofs.lemmas.List.{at_drop_more, at_drop_all}
 use Rattle.std.proofs.lemmas.Str.Parse.{IsNumeralModel, numerals_by_fold, tells_all_ascii_digits, parse_signed_minus, parse_signed_plain}
 use Rattle.std.proofs.lemmas.Bool.{cond-true, cond-false, eq-eqb, ne_eqb, cases_eq, lt-ltb, le-ltb, cases_lt, false≢true, true≢false}
 use Rattle.std.proofs.lemmas.Bool.Decides.{nat_tests}
+use Rattle.words.specs.declared.errors.LineError.{LineError}
 use Rattle.words.specs.declared.errors.LineError.TheVariants.{NotANumber, NumberTooLarge}
 use Rattle.words.specs.Numerals.{is_numeral, value_after, natural_of, plus, minus, whole_of, fits64, in_range, number_of, DecimalsRead}
 
@@ -54,29 +58,20 @@ unfolding number_of
 decimals_read (pos n) h = ap in_range (whole_plain (decimal n) n (natural_decimal n (omega arith)) (digits_decimal own n (omega arith))) ∙ in_range_lem (pos n) h
 decimals_read (negsuc n) h = ap (λ o. in_range (minus o)) (natural_decimal (suc n) (omega arith)) ∙ in_range_lem (negsuc n) h
 
--- what is left of a text decides whether it is a numeral
-module _ (bs : List ℕ) (i : ℕ) (left : all_ascii_digits (drop i bs) ≡ all_ascii_digits bs) where
-  step : i < length bs → all_ascii_digits bs ≡ (is_ascii_digit (get_or bs i 0) && all_ascii_digits (drop (i + 1) bs))
-  step h = sym left ∙ at_drop_more all_ascii_digits bs i 0 h
-
-  pub digits_more : i < length bs → is_ascii_digit (get_or bs i 0) ≡ true → all_ascii_digits (drop (i + 1) bs) ≡ all_ascii_digits bs
-  digits_more h e = sym (step h ∙ ap (λ t. t && all_ascii_digits (drop (i + 1) bs)) e)
-
-  pub digits_not : i < length bs → is_ascii_digit (get_or bs i 0) ≡ false → is_numeral bs ≡ false
-  digits_not h e = numeral_some bs (omega arith) ∙ step h ∙ ap (λ t. t && all_ascii_digits (drop (i + 1) bs)) e
-
-  pub digits_all : length bs ≤ i → is_numeral bs ≡ not (eqb (length bs) 0)
-  digits_all h = done bs (sym left ∙ at_drop_all all_ascii_digits bs i h)
-    where
-      done : (ds : List ℕ) → all_ascii_digits ds ≡ true → is_numeral ds ≡ not (eqb (length ds) 0)
-      done [] e = refl
-      done (c ∷ cs) e = e ∙ sym (ap not (ne_eqb (length (c ∷ cs)) 0 (λ z. omega arith)))
+-- a text that is not empty, each byte of it a digit
+pub numeral_all : (ds : List ℕ) → false ≡ eqb (length ds) 0 → list_all is_ascii_digit ds ≡ is_numeral ds
+numeral_all [] e = absurd (false≢true e)
+numeral_all (c ∷ cs) e = ap (λ t. is_ascii_digit c && t) (digits cs)
+  where
+    digits : (bs : List ℕ) → list_all is_ascii_digit bs ≡ all_ascii_digits bs
+    digits [] = refl
+    digits (b ∷ bs) = ap (λ t. is_ascii_digit b && t) (digits bs)
 
 natural_is : (ds : List ℕ) → is_some (natural_of ds) ≡ is_numeral ds
 natural_is ds = elim (is_numeral ds) as (λ t. is_some (cond t (Some (value_after 0 ds)) None) ≡ t) [ true ↦ refl | false ↦ refl ]
 
 -- with a minus in front
-pub number_minus : (bs ds : List ℕ) → bs ≡ 45 ∷ ds → is_numeral ds ≡ is_some (whole_of bs)
+number_minus : (bs ds : List ℕ) → bs ≡ 45 ∷ ds → is_numeral ds ≡ is_some (whole_of bs)
 number_minus bs ds e = sym (ap (λ l. is_some (whole_of l)) e ∙ same_minus (natural_of ds) ∙ natural_is ds)
   where
     same_minus : (o : Option ℕ) → is_some (minus o) ≡ is_some o
@@ -84,7 +79,7 @@ number_minus bs ds e = sym (ap (λ l. is_some (whole_of l)) e ∙ same_minus (na
     same_minus (Some n) = refl
 
 -- with none
-pub number_plain : (bs : List ℕ) → ((rest : List ℕ) → bs ≡ 45 ∷ rest → ⊥) → is_numeral bs ≡ is_some (whole_of bs)
+number_plain : (bs : List ℕ) → ((rest : List ℕ) → bs ≡ 45 ∷ rest → ⊥) → is_numeral bs ≡ is_some (whole_of bs)
 number_plain [] h = refl
 number_plain (c ∷ cs) h =
     sym (ap is_some (cond-false (eqb c 45) _ _ (ne_eqb c 45 (λ e. h cs (ap (λ x. x ∷ cs) e)))) ∙ same_plus (natural_of (c ∷ cs)) ∙ natural_is (c ∷ cs))
@@ -92,6 +87,14 @@ number_plain (c ∷ cs) h =
     same_plus : (o : Option ℕ) → is_some (plus o) ≡ is_some o
     same_plus None = refl
     same_plus (Some n) = refl
+
+-- with the minus cut off, if there is one
+pub number_stripped : (word : Bor (List ℕ)) (r : Option (Bor (List ℕ))) → MatchOption r (FindsCharPrefix 45 word.now None) (λ x. StripsPrefix (FindsCharPrefix 45) word.now x.now) → is_numeral (unwrap_or r word).now ≡ is_some (whole_of word.now)
+number_stripped word r h = cases r (strip_prefix_char 45 word.now r h (omega arith))
+  where
+    cases : (o : Option (Bor (List ℕ))) → MatchOption o ((rest : List ℕ) → word.now ≡ 45 ∷ rest → ⊥) (λ x. word.now ≡ 45 ∷ x.now) → is_numeral (unwrap_or o word).now ≡ is_some (whole_of word.now)
+    cases None h = number_plain word.now h
+    cases (Some x) h = number_minus word.now x.now h
 
 -- a word that writes no number
 pub number_none : (bs : List ℕ) → is_some (whole_of bs) ≡ false → number_of bs ≡ Err NotANumber
@@ -135,3 +138,9 @@ parse_agrees (c ∷ cs) r h some = ⊎_elim negative plain (cases_eq c 45)
       where
         no_plus : all_ascii_digits (c ∷ cs) ≡ true → c ≡ 43 → ⊥
         no_plus d e = grind (arith, nat_tests)
+
+-- what is made of it
+pub number_of_parse : {E : Type 0} (bs : List ℕ) (r : Result ℤ E) (s : Result ℤ LineError) (Q : E → LineError → Type 0) → Agrees bs r → MatchResult r (λ z. s ≡ Ok z) (λ e. IsErrAnd s (Q e)) → ((e : E) (y : LineError) → Q e y → y ≡ NumberTooLarge) → s ≡ number_of bs
+number_of_parse bs (Ok z) s Q a m made = m ∙ sym a
+number_of_parse bs (Err e) (Ok z) Q a m made = absurd m
+number_of_parse bs (Err e) (Err y) Q a m made = ap Err (made e y m) ∙ sym a

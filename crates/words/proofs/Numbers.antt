@@ -25,12 +25,7 @@ back : (r : Numbers) → Nine r → nine_numbers (map signed_decimal (items_of r
 back r nine =
     let long : length (items_of r) ≡ 9 = length-append r.coefficients (r.bound ∷ []) ∙ ap (λ n. n + 1) nine.0 in
     nine_ok (map signed_decimal (items_of r)) (items_of r) (ap (λ n. numbers_after [] n (map signed_decimal (items_of r))) (sym long) ∙ numbers_written [] (items_of r) nine.1)
-    ∙ ap Ok (sym (shape_whole r nine.0))
-  where
-    shape_whole : (q : Numbers) → length q.coefficients ≡ 8 → q ≡ shape (items_of q)
-    shape_whole q e =
-        shape_is q.coefficients 8 q.bound q.bound e (omega arith) refl
-        ∙ ap (λ l. shape (l ++ q.bound ∷ [])) (take_all 8 q.coefficients (omega arith))
+    ∙ ap Ok (sym (shape_is r.coefficients r.bound r.bound nine.0 refl))
 
 -- an error is no value
 pub refused : {X Y : Type 0} (e : LineError) (x : X) → ◌≡◌ {A = Result X LineError} (Err e) (Ok x) → Y

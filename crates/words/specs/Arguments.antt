@@ -1,5 +1,5 @@
 -- Arguments read from words: numbers, and words that write bytes.
-use Rattle.std.specs.Prelude.{◌≡◌, ℕ, zero, suc, ◌^◌, ◌<◌, List, [], ◌∷◌, ◌++◌, map, length, take, ℤ, pos, Ok, Err, Result, slice_index_or}
+use Rattle.std.specs.Prelude.{◌≡◌, ℕ, zero, suc, ◌^◌, ◌<◌, List, [], ◌∷◌, ◌++◌, map, length, take, ℤ, pos, IfOk, IfErr, Ok, Err, Result, slice_index_or}
 use Rattle.std.specs.Int.Signed.{mag}
 use Rattle.std.specs.Fmt.{signed_decimal}
 use Rattle.std.specs.List.{AllByRecursion}
@@ -45,6 +45,12 @@ shape zs = record { coefficients = take 8 zs; bound = slice_index_or zs 8 (pos 0
 
 unfoldable pub nine_numbers : List (List ℕ) → Result Numbers LineError
 nine_numbers ws = and_then (numbers_after [] 9 ws) (λ zs. Ok (shape zs))
+
+-- the first eight of nine numbers were read and the ninth is left, or one of them could not be read
+pub record EightRead (before after : List (List ℕ)) (r : Result (List ℤ) LineError) : Type 0 where
+  pub long : IfOk r (λ zs. length zs ≡ 8)
+  pub ok : IfOk r (λ zs. numbers_after zs 1 after ≡ numbers_after [] 9 before)
+  pub err : IfErr r (λ e. numbers_after [] 9 before ≡ Err e)
 
 -- the nine numbers in their order
 abbrev pub items_of : Numbers → List ℤ

@@ -1,15 +1,14 @@
 -- Bytes written as hexadecimal digits: which texts are, which bytes they write, and how bytes are written.
-use Rattle.std.specs.Prelude.{◌≡◌, ℕ, ◌+◌, ◌*◌, ◌/◌, ◌%◌, ◌<◌, Bool, true, cond, ◌&&◌, ◌⊎◌, List, [], ◌∷◌, length, Ok, Err, codes, Result, ◌==◌}
+use Rattle.std.specs.Prelude.{◌≡◌, ℕ, ◌+◌, ◌*◌, ◌/◌, ◌%◌, ◌<◌, Bool, true, cond, ◌⊎◌, List, [], ◌∷◌, length, Ok, Err, codes, Result, ◌==◌}
 use Rattle.std.specs.Char.{is_ascii_hexdigit, digit_value, digit_char}
-use Rattle.std.specs.List.{AllByRecursion}
+use Rattle.std.specs.List.{AllByRecursion, list_all}
 use Rattle.std.specs.Str.{bytes_eq}
 use Rattle.words.specs.declared.errors.LineError.{LineError}
 use Rattle.words.specs.declared.errors.LineError.TheVariants.{NoHexDigit, OddHexDigits}
 
 -- hexadecimal digits, upper or lower case
 abbrev pub all_hex : List ℕ → Bool
-all_hex [] = true
-all_hex (c ∷ cs) = is_ascii_hexdigit c && all_hex cs
+all_hex = list_all is_ascii_hexdigit
 
 -- a byte for each two digits
 abbrev pub pairs_of : List ℕ → List ℕ

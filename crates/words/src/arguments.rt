@@ -1,5 +1,5 @@
 // The arguments of a command, read from the words that are left.
-ghost use Rattle.words.specs.Arguments.{rest_of, ended, first_number, first_hex, nine_numbers, NumbersRead};
+ghost use Rattle.words.specs.Arguments.{rest_of, ended, first_number, first_hex, nine_numbers, EightRead, NumbersRead};
 ghost use Rattle.words.specs.Read.{left, word_in};
 ghost use Rattle.std.specs.Prelude.{◌≡◌};
 
@@ -26,10 +26,7 @@ impl<'a> Words<'a> {
         ensures value { result ≡ first_number (left self.old) }
         ensures after { left self.new ≡ rest_of (left self.old) }
     {
-        match self.next() {
-            Some(word) => numerals::number(word),
-            None => Err(LineError::TooFewWords),
-        }
+        numerals::number(self.next().ok_or(LineError::TooFewWords)?)
     }
 
     // The next word as one that writes bytes.
@@ -37,10 +34,19 @@ impl<'a> Words<'a> {
         ensures value { word_in result ≡ first_hex (left self.old) }
         ensures after { left self.new ≡ rest_of (left self.old) }
     {
-        match self.next() {
-            Some(word) => Hex::read(word),
-            None => Err(LineError::MissingHex),
+        Hex::read(self.next().ok_or(LineError::MissingHex)?)
+    }
+
+    // The next eight words as numbers.
+    #[tactic(auto, using(crate::proofs::Reading::reading_ends))]
+    fn coefficients(&mut self) -> Result<[i64; COLUMNS], LineError>
+        ensures { EightRead (left self.old) (left self.new) result }
+    {
+        let mut coefficients = [0; COLUMNS];
+        for coefficient in &mut coefficients {
+            *coefficient = self.number()?;
         }
+        Ok(coefficients)
     }
 
     // Eight coefficients and a bound, and no word more.
@@ -48,10 +54,7 @@ impl<'a> Words<'a> {
         ensures value { result ≡ nine_numbers (left self.entry) }
         ensures law { NumbersRead }
     {
-        let mut coefficients = [0; COLUMNS];
-        for column in 0..COLUMNS {
-            coefficients[column] = self.number()?;
-        }
+        let coefficients = self.coefficients()?;
         let bound = self.number()?;
         self.end()?;
         Ok(Numbers {

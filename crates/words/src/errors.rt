@@ -29,12 +29,11 @@ pub enum LineError {
     OutOfMemory,
 }
 
-impl LineError {
-    // The reason in words.
-    fn reason(self) -> &'static str
-        ensures { result.now ≡ reason_text self }
-    {
-        match self {
+impl fmt::Display for LineError {
+    ghost output = { λ e. Some (reason_text e) };
+
+    fn fmt<W: fmt::Write>(&self, f: &mut fmt::Formatter<W>) -> fmt::Result {
+        f.write_str(match self {
             LineError::NotText => "not text in UTF-8",
             LineError::UnknownCommand => "unknown command",
             LineError::NotANumber => "not a number",
@@ -49,15 +48,7 @@ impl LineError {
             LineError::OddHexDigits => "odd number of hexadecimal digits",
             LineError::FactsFull => "1000 facts are held already",
             LineError::OutOfMemory => "out of memory",
-        }
-    }
-}
-
-impl fmt::Display for LineError {
-    ghost output = { λ e. Some (reason_text e) };
-
-    fn fmt<W: fmt::Write>(&self, f: &mut fmt::Formatter<W>) -> fmt::Result {
-        f.write_str(self.reason())
+        })
     }
 }
 

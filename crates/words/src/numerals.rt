@@ -1,29 +1,33 @@
 // Words that write a number.
 ghost use Rattle.words.specs.Numerals.{is_numeral, number_of, whole_of, DecimalsRead};
 ghost use Rattle.std.specs.Prelude.{◌≡◌, is_some};
+ghost use Rattle.std.specs.Char.{is_ascii_digit};
+ghost use Rattle.std.specs.List.{list_all};
 
 use crate::errors::LineError;
 
+// Whether there are only decimal digits.
+fn all_digits(bytes: &[u8]) -> bool
+    ensures { result ≡ list_all is_ascii_digit bytes.now }
+{
+    bytes.iter().all(|byte| byte.is_ascii_digit())
+}
+
 // One decimal digit or more, and nothing else.
+#[tactic(auto, using(crate::proofs::Decimal::numeral_all))]
 fn is_numeral(bytes: &[u8]) -> bool
     ensures { result ≡ is_numeral bytes.now }
 {
-    for byte in bytes {
-        if !byte.is_ascii_digit() {
-            return false;
-        }
-    }
-    !bytes.is_empty()
+    !bytes.is_empty() && all_digits(bytes)
 }
 
 // A numeral, with or without a minus in front.
+#[tactic(auto, using(crate::proofs::Decimal::number_stripped))]
 fn is_number(word: &str) -> bool
     ensures { result ≡ is_some (whole_of word.now) }
 {
-    match word.strip_prefix('-') {
-        Some(digits) => is_numeral(digits.as_bytes()),
-        None => is_numeral(word.as_bytes()),
-    }
+    let digits = word.strip_prefix('-').unwrap_or(word);
+    is_numeral(digits.as_bytes())
 }
 
 // The number that a word writes in decimal. Any number of leading zeros is allowed, and no plus.
@@ -34,8 +38,5 @@ pub fn number(word: &str) -> Result<i64, LineError>
     if !is_number(word) {
         return Err(LineError::NotANumber);
     }
-    match word.parse::<i64>() {
-        Ok(number) => Ok(number),
-        Err(_) => Err(LineError::NumberTooLarge),
-    }
+    word.parse().map_err(|_| LineError::NumberTooLarge)
 }

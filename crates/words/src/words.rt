@@ -1,41 +1,23 @@
 // A line as words.
-ghost use Rattle.words.specs.Words.{separator, Front, Handed, WordsRead};
-ghost use Rattle.std.specs.Prelude.{◌≡◌, true, false};
+ghost use Rattle.words.specs.Words.{Front, Handed, words_of, WordsRead};
+ghost use Rattle.std.specs.Iterator.{YieldsFirstRef, item_count, MakesProgress};
+ghost use Rattle.std.specs.Prelude.{◌≡◌, false};
 
-// What is left of a line. Words are separated by spaces, tabs and carriage returns.
+// What stands between words: spaces, tabs and carriage returns.
+const SEPARATORS: [char; 3] = [' ', '\t', '\r'];
+
+// What is left of a line.
 #[derive(Clone, Copy)]
 pub struct Words<'a> {
     rest: &'a str,
 }
 
-fn is_separator(byte: u8) -> bool
-    ensures { result ≡ separator byte }
-{
-    byte == b' ' || byte == b'\t' || byte == b'\r'
-}
-
-// How many separators stand in front.
-fn blanks(bytes: &[u8]) -> usize
-    ensures { Front true bytes.now result }
-{
-    for (i, byte) in bytes.iter().enumerate() {
-        if !is_separator(*byte) {
-            return i;
-        }
-    }
-    bytes.len()
-}
-
 // How many bytes stand before the first separator.
-fn word_length(bytes: &[u8]) -> usize
-    ensures { Front false bytes.now result }
+#[tactic(auto, using(crate::proofs::Cuts::front_found))]
+fn word_length(text: &str) -> usize
+    ensures { Front false text.now result }
 {
-    for (i, byte) in bytes.iter().enumerate() {
-        if is_separator(*byte) {
-            return i;
-        }
-    }
-    bytes.len()
+    text.find(SEPARATORS).unwrap_or(text.len())
 }
 
 impl<'a> Words<'a> {
@@ -45,15 +27,24 @@ impl<'a> Words<'a> {
     {
         Words { rest: line }
     }
+}
+
+impl<'a> Iterator for Words<'a> {
+    type Item = &'a str;
+
+    ghost next_gives = { YieldsFirstRef (λ w. words_of w.rest.now) };
+
+    ghost remaining = { item_count (λ w. words_of w.rest.now) };
 
     // The next word, or none where only separators are left.
-    pub fn next(&mut self) -> Option<&'a str>
+    fn next(&mut self) -> Option<&'a str>
+        ensures steps { YieldsFirstRef (λ w. words_of w.rest.now) self.old result self.new }
+        ensures goes { MakesProgress (λ _. Unit {0}) (item_count (λ w. words_of w.rest.now)) self.old result self.new }
         ensures handed { Handed result self.old.rest.now self.new.rest.now }
         ensures law { WordsRead }
     {
-        let line = self.rest;
-        let (_, text) = line.split_at(blanks(line.as_bytes()));
-        let (word, rest) = text.split_at(word_length(text.as_bytes()));
+        let text = self.rest.trim_start_matches(SEPARATORS);
+        let (word, rest) = text.split_at(word_length(text));
         self.rest = rest;
         if word.is_empty() { None } else { Some(word) }
     }

@@ -1,7 +1,9 @@
+-- `ask`, argument by argument.
 use Rattle.std.proofs.Common.{◌≡◌, sym, ap, ◌∙◌}
-use Rattle.commands.specs.Lines.{first_hex, rest_of, ended}
-use Rattle.commands.specs.Read.{left, word_in}
-use Rattle.commands.proofs.Parsing.{handed_on, ended_ok, ended_err, ask_method_lem, ask_hex, ask_end}
+use Rattle.words.specs.Arguments.{first_hex, rest_of, ended}
+use Rattle.words.specs.Read.{left, word_in}
+use Rattle.words.proofs.Reading.{ended_ok, ended_err}
+use Rattle.commands.proofs.Parsing.{handed_on, ask_method_lem, ask_hex, ask_end}
 use Rattle.commands.proofs.parser.ask.Goals as goal
 
 pub returns-in_err-stack : goal.returns-in_err-stack

@@ -1,6 +1,8 @@
+-- `sheet`, argument by argument.
 use Rattle.std.proofs.Common.{Ok, sym, ap, ◌∙◌, w64, SFits, rules}
 use Rattle.std.proofs.lemmas.Int.{to_z-of_z}
-use Rattle.commands.specs.Lines.{ended, and_then, set_sheet, sheet_rows}
+use Rattle.words.specs.Arguments.{ended, and_then}
+use Rattle.commands.specs.Lines.{set_sheet, sheet_rows}
 use Rattle.commands.proofs.Parsing.{handed_on, sheet_number, sheet_more, sheet_end}
 use Rattle.commands.proofs.parser.sheet.Goals as goal
 
