@@ -15,10 +15,9 @@ use std::array;
 fn item_at(bytes: &[u8], shape: Shape, at: usize, item: usize) -> i64
     ensures { result ≡ item_at shape bytes.now at item }
 {
-    match shape.slot(item) {
-        None => 0,
-        Some(slot) => number_at(bytes, at.saturating_add(4 * usize::from(slot))),
-    }
+    shape.slot(item).map_or(0, |slot| {
+        number_at(bytes, at.saturating_add(4 * usize::from(slot)))
+    })
 }
 
 // The numbers of the row at an offset, not yet tested.
