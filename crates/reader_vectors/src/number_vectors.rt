@@ -54,6 +54,7 @@ fn numbers_of_table(rt: &impl Abort, heap: Global, values: u8, choices: u8) -> R
 
 #[test]
 fn numbers_of_tables(rt: HostRuntime) -> Result<(), Fail> {
+    // One number for both counts: a loop for each would be two in one function.
     for i in 0..18 {
         numbers_of_table(&rt, rt.alloc(), i / 3 + 1, i % 3)?;
     }
@@ -100,6 +101,7 @@ fn numbers_of_witness(rt: &impl Abort, heap: Global, values: u8, choices: u8) ->
 
 #[test]
 fn numbers_of_witnesses(rt: HostRuntime) -> Result<(), Fail> {
+    // One number for both counts: a loop for each would be two in one function.
     for i in 0..18 {
         numbers_of_witness(&rt, rt.alloc(), i / 3 + 1, i % 3)?;
     }

@@ -1,21 +1,17 @@
--- Lists that are the front of their memory: a read at a place, a search, one element more, one replaced.
-use Rattle.std.proofs.Common.{◌≡◌, ℕ, suc, ◌+◌, ◌-◌, ◌<◌, ◌≤◌, min, Bool, true, false, cond, eqb, ltb, List, [], ◌∷◌, map, length, get_or, take, drop, set, Some, None, Option, unwrap_or, sym, refl, ap, ◌∙◌, inl, inr, ⊎_elim, le_of_lt, arith, MatchOption}
-use native.Mathlib.Nat.{min-eq_left, min-eq_right}
+-- Lists that are the front of their memory: a read past the end, a write, a push, and a search by number.
+use Rattle.std.proofs.Common.{◌≡◌, ℕ, suc, ◌+◌, ◌-◌, ◌<◌, ◌≤◌, min, Bool, true, false, cond, eqb, ltb, List, [], ◌∷◌, map, length, take, set, Some, None, Option, sym, refl, ap, ◌∙◌, inl, inr, arith, MatchOption}
 use lib.Seq.{take-set-lt}
-use Rattle.std.proofs.lemmas.List.{at_drop_more, at_drop_all, take_all}
-use Rattle.std.proofs.lemmas.Bool.{cases_lt, lt-ltb, cond-true, cases_Bool}
+use Rattle.std.proofs.lemmas.List.{at_drop_all, take_min}
+use Rattle.std.proofs.lemmas.Bool.{lt-ltb, cond-true, cases_Bool}
 use Rattle.std.specs.Option.{option_map}
-use Rattle.records.specs.Lists.{place_of, at, first, first_with, among}
+use Rattle.records.specs.Lists.{place_of, at, first, first_with}
 
 pub at_past : {X : Type 0} → (xs : List X) (i : ℕ) → length xs ≤ i → ◌≡◌ {A = Option X} None (at i xs)
 at_past xs i h = sym (at_drop_all first xs i h)
 
 -- what a cut at the smaller of two lengths keeps
 pub cut : {X : Type 0} → (xs : List X) (n : ℕ) → take (min n (length xs)) xs ≡ take n xs
-cut xs n =
-    ⊎_elim (λ (h : n < length xs). ap (λ j. take j xs) (min-eq_left (le_of_lt h)))
-    (λ (h : length xs ≤ n). ap (λ j. take j xs) (min-eq_right h) ∙ take_all (length xs) xs (omega arith) ∙ sym (take_all n xs h))
-    (cases_lt n (length xs))
+cut xs n = take_min n xs
 
 -- a write among the first n
 pub taken_set : {X : Type 0} (xs : List X) (n i : ℕ) (x : X) → i < n → take n (set xs i x) ≡ set (take n xs) i x
@@ -50,17 +46,3 @@ first_plain plain num mun n (x ∷ xs) h =
       | inl t ↦ let s : eqb (mun (plain x)) n ≡ true = ap (λ k. eqb k n) (h x) ∙ t in rw (t, s)
       | inr f ↦ let s : eqb (mun (plain x)) n ≡ false = ap (λ k. eqb k n) (h x) ∙ f in rw (f, s) (first_plain plain num mun n xs h)
     ]
-
--- an element read at a place
-pub read_at : {X : Type 0} (xs : List X) (i : ℕ) (d : X) → i < length xs → unwrap_or (at i xs) d ≡ get_or xs i d
-read_at xs i d h = ap (λ o. unwrap_or o d) (at_drop_more first xs i d h)
-
--- one number on
-pub among_step : (n i : ℕ) (xs : List ℕ) (v : ℕ) (b : Bool) → i < length xs → v ≡ unwrap_or (at i xs) 0 → eqb v n ≡ b → among n (drop i xs) ≡ cond b true (among n (drop (i + 1) xs))
-among_step n i xs v b h e t =
-    at_drop_more (among n) xs i 0 h
-    ∙ ap (λ k. cond (eqb k n) true (among n (drop (i + 1) xs))) (sym (e ∙ read_at xs i 0 h))
-    ∙ ap (λ c. cond c true (among n (drop (i + 1) xs))) t
-
-pub among_none : (n i : ℕ) (xs : List ℕ) → length xs ≤ i → among n (drop i xs) ≡ false
-among_none n i xs h = at_drop_all (among n) xs i h

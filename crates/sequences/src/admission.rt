@@ -21,6 +21,7 @@ use records::{Heading, Inner, Place, Register};
 use rows::{Answer, Fault, FaultKind};
 
 // Puts what a piece holds into its register.
+// The two registers stay two loans: a struct of both would want three lifetimes.
 fn keep(found: WitnessRecord, places: &mut Register<'_, Place>, inners: &mut Register<'_, Inner>)
     requires { Roomy (record_of found) places.old inners.old }
     ensures places { map place_record_of (held places.new) ≡ places_added (record_of found) (map place_record_of (held places.old)) }
@@ -31,13 +32,9 @@ fn keep(found: WitnessRecord, places: &mut Register<'_, Place>, inners: &mut Reg
     ensures inners_room { room inners.new ≡ room inners.old }
 {
     match found {
-        WitnessRecord::Listed(place) => {
-            places.push(place);
-        }
-        WitnessRecord::Declared(inner) => {
-            inners.push(inner);
-        }
-    }
+        WitnessRecord::Listed(place) => places.push(place),
+        WitnessRecord::Declared(inner) => inners.push(inner),
+    };
 }
 
 // Puts the records of a witness that has passed every test into empty registers.

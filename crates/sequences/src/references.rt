@@ -39,10 +39,8 @@ impl Named<'_> {
     fn entry_fits(self, place: u16, number: u16) -> bool
         ensures { result ≡ entry_fits (named_of self.entry) place number }
     {
-        match self.transition(number) {
-            Some(transition) => transition.start == place && contains(&self.noted.inners, number),
-            None => false,
-        }
+        self.transition(number).is_some_and(|t| t.start == place
+            && contains(&self.noted.inners, number))
     }
 
     // Whether an inner transition fits: it is in the table, and its start and target are listed.
@@ -50,12 +48,8 @@ impl Named<'_> {
         ensures { result ≡ inner_fits (named_of self.entry) number }
     {
         let places = &self.noted.places;
-        match self.transition(number) {
-            Some(transition) => {
-                contains(places, transition.start) && contains(places, transition.target)
-            }
-            None => false,
-        }
+        self.transition(number).is_some_and(|t| contains(places, t.start)
+            && contains(places, t.target))
     }
 
     // Tests the entries of a plan.
@@ -68,6 +62,7 @@ impl Named<'_> {
         let plan_count_from = ROWS_FROM + stride * rows;
         let count = usize::from(byte_at(piece.rest, plan_count_from));
         let place = word_at(piece.rest, NUMBER_FROM);
+        // `e` counts entries and indexes no list: offsets by `step_by` read no plainer.
         for e in 0..count {
             let at = plan_count_from + 1 + (TRANSITION_BYTES + stride) * e;
             let number = word_at(piece.rest, at);

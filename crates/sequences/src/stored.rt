@@ -1,4 +1,5 @@
 // Rows and expressions that stand in bytes.
+// A piece and a shape are no struct of their own: the rows of one piece have two shapes.
 ghost use Rattle.std.specs.Prelude.{◌≡◌, ℕ, ◌+◌, ◌*◌, ◌^◌, ◌<◌, ◌≤◌, length};
 ghost use Rattle.sequences.specs.StoredMade.{row_from, rows_from};
 ghost use Rattle.formats.specs.StoredRows.{item_at, row_at};
@@ -15,10 +16,9 @@ use std::array;
 fn item_at(bytes: &[u8], shape: Shape, at: usize, item: usize) -> i64
     ensures { result ≡ item_at shape bytes.now at item }
 {
-    match shape.slot(item) {
-        None => 0,
-        Some(slot) => number_at(bytes, at.saturating_add(4 * usize::from(slot))),
-    }
+    shape.slot(item).map_or(0, |slot| {
+        number_at(bytes, at.saturating_add(4 * usize::from(slot)))
+    })
 }
 
 // The numbers of the row at an offset, not yet tested.
@@ -62,6 +62,7 @@ pub(crate) fn rows_at<T: Written, const N: usize>(
 {
     let mut rows = BoundedList::new(T::zero());
     let stride = shape.stride();
+    // `i` counts rows and indexes no list: offsets by `step_by` read no plainer.
     for i in 0..count {
         let row = row_at(piece, shape, from + stride * i, kind)?;
         rows.push(row);

@@ -49,6 +49,7 @@ fn tested_from(
         test: WrittenRow::zero(),
     });
     let stride = TRANSITION_BYTES + shape.over_values().stride();
+    // `i` counts entries and indexes no list: offsets by `step_by` read no plainer.
     for i in 0..count {
         let at = from + stride * i;
         let plain = shape.over_values();

@@ -1,4 +1,5 @@
-// The fields of a piece, and the tests on them. Each names the kind of its fault, as its definition does.
+// The fields of a piece, and the tests on them.
+// Each is told the kind of its fault, as its definition is: a struct of the kinds would be looked into at each test.
 ghost use Rattle.std.specs.Prelude.{◌≡◌, ℕ, ◌+◌, ◌≤◌, length};
 ghost use Rattle.formats.specs.Pieces.{rest_from, byte_at, fault_at, reach_says, long_says, count_says, above_says, giving};
 ghost use Rattle.rows.specs.Bytes.{word_at};

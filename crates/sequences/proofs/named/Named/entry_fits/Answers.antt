@@ -1,26 +1,17 @@
-use Rattle.std.proofs.Common.{Bool, ◌&&◌, Option, sym, ap, ◌∙◌}
-use Rattle.std.proofs.lemmas.Bool.{eq-eqb, ne_eqb}
-use Rattle.records.specs.Bounded.{listed}
-use Rattle.records.specs.Lists.{among}
-use Rattle.records.specs.Records.{TransitionData}
-use Rattle.formats.specs.Witnesses.{entry_fits, starts_at}
+use Rattle.std.proofs.Common.{◌≡◌, ℕ, Bool, false, ◌&&◌, eqb, Some, None, Option, ap, ◌∙◌, rules, tests, MatchOption}
+use Rattle.std.specs.Option.{option_map}
+use Rattle.records.specs.declared.records.Transition.{Transition}
+use Rattle.records.specs.Lists.{first_with, among}
+use Rattle.records.specs.Records.{TransitionData, transition_of}
+use Rattle.formats.specs.Witnesses.{Named, entry_fits, starts_at}
+use Rattle.sequences.specs.TableGiven.{named_of}
 use Rattle.sequences.proofs.named.Named.entry_fits.Goals as goal
 
-pub returns-then-transition-place : goal.returns-then-transition-place
+-- whether an entry fits, by the transition that was found
+fits : (named : Named) (place n : ℕ) (o : Option Transition) (r : Bool) → option_map transition_of o ≡ first_with (λ (t : TransitionData). t.number) n named.transitions → MatchOption o (r ≡ false) (λ t. r ≡ (eqb t.start place && among n named.inners)) → r ≡ entry_fits named place n
 unfolding entry_fits
-returns-then-transition-place c =
-    let a = among c.args.number (listed c.args.self.noted.now.inners) in
-    c.contains.ensures
-    ∙ sym (ap (λ (b : Bool). b && a) (eq-eqb _ _ c.if-transition-place.true))
-    ∙ ap (λ (o : Option TransitionData). starts_at c.args.place o && a) c.in-Some.ensures
+fits named place n None r e h = h ∙ ap (λ (o : Option TransitionData). starts_at place o && among n named.inners) e
+fits named place n (Some t) r e h = h ∙ ap (λ (o : Option TransitionData). starts_at place o && among n named.inners) e
 
-pub returns-else-transition-place : goal.returns-else-transition-place
-unfolding entry_fits
-returns-else-transition-place c =
-    let a = among c.args.number (listed c.args.self.noted.now.inners) in
-    let f = ne_eqb _ _ c.if-transition-place.false in
-    f ∙ sym (ap (λ (b : Bool). b && a) f) ∙ ap (λ (o : Option TransitionData). starts_at c.args.place o && a) c.in-Some.ensures
-
-pub returns-in-None : goal.returns-in-None
-unfolding entry_fits
-returns-in-None c = ap (λ (o : Option TransitionData). starts_at c.args.place o && among c.args.number (listed c.args.self.noted.now.inners)) c.in-None.ensures
+pub returns : goal.returns
+returns c = fits (named_of c.args.self) c.args.place c.args.number c.transition.result c.is_some_and.result c.transition.ensures (search (rules, tests))

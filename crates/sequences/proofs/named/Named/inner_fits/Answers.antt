@@ -1,25 +1,17 @@
-use Rattle.std.proofs.Common.{Bool, ◌&&◌, sym, ap, ◌∙◌}
-use Rattle.records.specs.Bounded.{listed}
-use Rattle.records.specs.Lists.{among}
-use Rattle.formats.specs.Witnesses.{inner_fits, joins_listed}
+use Rattle.std.proofs.Common.{◌≡◌, ℕ, Bool, false, ◌&&◌, Some, None, Option, ap, ◌∙◌, rules, tests, MatchOption}
+use Rattle.std.specs.Option.{option_map}
+use Rattle.records.specs.declared.records.Transition.{Transition}
+use Rattle.records.specs.Lists.{first_with, among}
+use Rattle.records.specs.Records.{TransitionData, transition_of}
+use Rattle.formats.specs.Witnesses.{Named, inner_fits, joins_listed}
+use Rattle.sequences.specs.TableGiven.{named_of}
 use Rattle.sequences.proofs.named.Named.inner_fits.Goals as goal
 
-pub returns-then-contains : goal.returns-then-contains
+-- whether an inner transition fits, by the transition that was found
+fits : (named : Named) (n : ℕ) (o : Option Transition) (r : Bool) → option_map transition_of o ≡ first_with (λ (t : TransitionData). t.number) n named.transitions → MatchOption o (r ≡ false) (λ t. r ≡ (among t.start named.places && among t.target named.places)) → r ≡ inner_fits named n
 unfolding inner_fits
-returns-then-contains c =
-    let places = listed c.args.self.noted.now.places in
-    c.contains-then-contains.ensures
-    ∙ sym (ap (λ (b : Bool). b && among c.in-Some.transition.target places) (sym c.contains.ensures ∙ c.if-contains.true))
-    ∙ ap (joins_listed places) c.in-Some.ensures
+fits named n None r e h = h ∙ ap (joins_listed named.places) e
+fits named n (Some t) r e h = h ∙ ap (joins_listed named.places) e
 
-pub returns-else-contains : goal.returns-else-contains
-unfolding inner_fits
-returns-else-contains c =
-    let places = listed c.args.self.noted.now.places in
-    c.if-contains.false
-    ∙ sym (ap (λ (b : Bool). b && among c.in-Some.transition.target places) (sym c.contains.ensures ∙ c.if-contains.false))
-    ∙ ap (joins_listed places) c.in-Some.ensures
-
-pub returns-in-None : goal.returns-in-None
-unfolding inner_fits
-returns-in-None c = ap (joins_listed (listed c.args.self.noted.now.places)) c.in-None.ensures
+pub returns : goal.returns
+returns c = fits (named_of c.args.self) c.args.number c.transition.result c.is_some_and.result c.transition.ensures (search (rules, tests))
