@@ -1,6 +1,6 @@
 -- How large the numbers of a goal become, over any number of terms: every product and sum fits 64 bits, and a goal is
 -- within the limit of rows.
-use Rattle.std.proofs.Common.{◌≡◌, ℕ, zero, suc, ◌+◌, ◌*◌, ◌^◌, ◌<◌, ◌≤◌, true, List, [], ◌∷◌, map, length, get_or, ℤ, pos, ◌+ℤ◌, ◌-ℤ◌, ◌*ℤ◌, neg_ℤ, sym, refl, ap, ◌∙◌, subst, inl, inr, add-one, arith, lit<, w64, SFits, to_z, of_z}
+use Rattle.std.proofs.Common.{◌≡◌, ℕ, zero, suc, ◌+◌, ◌*◌, ◌^◌, ◌<◌, ◌≤◌, true, List, [], ◌∷◌, map, length, get_or, ℤ, pos, ◌+ℤ◌, ◌-ℤ◌, ◌*ℤ◌, neg_ℤ, sym, refl, ap, ◌∙◌, subst, inl, inr, add-one, arith, lit<, lit≤, w64, SFits, to_z, of_z}
 use lib.Signed.{le_z}
 use Rattle.std.proofs.lemmas.Nat.{mul-le}
 use Rattle.std.proofs.lemmas.List.FromFn.{get_or-map-range_with_len}
@@ -14,7 +14,7 @@ use Rattle.rows.specs.declared.written.WrittenRow.{WrittenRow}
 use Rattle.rows.specs.Limits.{columns, magnitude_of, within}
 use Rattle.rows.specs.Shapes.{item_of, Within}
 use Rattle.rows.specs.Zeros.{zero_numbers}
-use Rattle.rows.proofs.Bounds.{Bounded, bounded, product_bounded, sum_bounded, Accumulated, turn, bounded_fits}
+use Rattle.rows.proofs.Bounds.{Bounded, bounded, product_bounded, sum_bounded, Accumulated, turn, passed_bounded}
 use Rattle.rows.proofs.Items.{item_column, item_bound}
 use Rattle.records.specs.declared.records.Inner.{Inner}
 use Rattle.records.specs.declared.records.Transition.{Transition}
@@ -22,14 +22,12 @@ use Rattle.records.specs.Bounded.{listed}
 use Rattle.records.specs.Limits.{most_values, most_choices}
 use Rattle.records.specs.Records.{row_of, expression_of, transition_of, inner_of}
 use Rattle.formats.specs.Pieces.{each}
+use Rattle.obligations.specs.Goals.{sum_limit, Addends}
 use Rattle.semantics.specs.Goals.{coefficient, sum_to, combined, kept_or_zero, after_update, with_choices}
 
--- what no product of written numbers passes, and no sum of such products over the columns
+-- how large one product of written numbers is
 abbrev pub most_product : ℕ
 most_product = magnitude_of WrittenNumber * magnitude_of WrittenNumber
-
-abbrev pub sum_limit : ℕ
-sum_limit = columns * most_product
 
 -- every number of a row within a limit is bounded, also past its items, where it is the bound again
 pub item_bounded : (most : ℕ) (row : Numbers) (k : ℕ) → Within most row → Bounded most (item_of row k)
@@ -126,24 +124,16 @@ lowered a z f g = record { low = omega (arith, ints); high = omega (arith, ints)
 widened : (z : ℤ) → Bounded (sum_limit) z → Bounded (magnitude_of RowNumber) z
 widened z b = record { low = omega (arith, ints); high = omega (arith, ints) }
 
--- what the code makes of a number x and a sum y by `+` or `-`, at 64 bits
-pub record Coded (op : ℤ → ℤ → ℤ) (a z x y : ℤ) : Type 0 where
-  pub fits : SFits w64 (op (to_z w64 (of_z w64 a)) (to_z w64 (of_z w64 z)))
-  pub is : to_z w64 (of_z w64 (op (to_z w64 (of_z w64 a)) (to_z w64 (of_z w64 z)))) ≡ op x y
+-- as they are passed to a function, to their bits and back
+pub addends : (a z : ℤ) → Bounded (magnitude_of WrittenNumber) a → Bounded sum_limit z → Addends (to_z w64 (of_z w64 a)) (to_z w64 (of_z w64 z))
+addends a z f g =
+    let p = passed_bounded (magnitude_of WrittenNumber) (magnitude_of WrittenNumber) a (lit≤ tt) (lit< tt) f in
+    let q = passed_bounded sum_limit sum_limit z (lit≤ tt) (lit< tt) g in
+    record { number_low = p.0; number_high = p.1; sum_low = q.0; sum_high = q.1 }
 
-coded : (op : ℤ → ℤ → ℤ) (a z x y : ℤ) → a ≡ x → z ≡ y → Bounded (magnitude_of WrittenNumber) x → Bounded sum_limit y → Bounded (magnitude_of RowNumber) (op x y) → Coded op a z x y
-coded op a z x y e h f g b =
-    let fa : SFits w64 a = subst (SFits w64) (sym e) (bounded_fits (magnitude_of WrittenNumber) x (lit< tt) f) in
-    let fz : SFits w64 z = subst (SFits w64) (sym h) (bounded_fits sum_limit y (lit< tt) g) in
-    let s : op (to_z w64 (of_z w64 a)) (to_z w64 (of_z w64 z)) ≡ op x y = ap (λ (n : ℤ). op n (to_z w64 (of_z w64 z))) (to_z-of_z w64 a fa ∙ e) ∙ ap (op x) (to_z-of_z w64 z fz ∙ h) in
-    let t = bounded_fits (magnitude_of RowNumber) (op x y) (lit< tt) b in
-    record { fits = subst (SFits w64) (sym s) t; is = ap (λ (n : ℤ). to_z w64 (of_z w64 n)) s ∙ to_z-of_z w64 (op x y) t }
-
-pub coded_sum : (a z x y : ℤ) → a ≡ x → z ≡ y → Bounded (magnitude_of WrittenNumber) x → Bounded sum_limit y → Coded (λ (m n : ℤ). m +ℤ n) a z x y
-coded_sum a z x y e h f g = coded (λ (m n : ℤ). m +ℤ n) a z x y e h f g (raised x y f g)
-
-pub coded_difference : (a z x y : ℤ) → a ≡ x → z ≡ y → Bounded (magnitude_of WrittenNumber) x → Bounded sum_limit y → Coded (λ (m n : ℤ). m -ℤ n) a z x y
-coded_difference a z x y e h f g = coded (λ (m n : ℤ). m -ℤ n) a z x y e h f g (lowered x y f g)
+-- what a function answers of two numbers that are passed so
+pub worked_out : (op : ℤ → ℤ → ℤ) (r a b x y : ℤ) → SFits w64 r → SFits w64 a → SFits w64 b → r ≡ op (to_z w64 (of_z w64 a)) (to_z w64 (of_z w64 b)) → a ≡ x → b ≡ y → to_z w64 (of_z w64 r) ≡ op x y
+worked_out op r a b x y fr fa fb e ea eb = to_z-of_z w64 r fr ∙ e ∙ ap (λ (z : ℤ). op z (to_z w64 (of_z w64 b))) (to_z-of_z w64 a fa ∙ ea) ∙ ap (op x) (to_z-of_z w64 b fb ∙ eb)
 
 -- a row of which each number is bounded is within the limit
 within_true : (most : ℕ) (z : ℤ) → Bounded most z → within most z ≡ true

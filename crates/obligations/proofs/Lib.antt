@@ -1,8 +1,8 @@
 pub mod Joining
-pub mod FilledArrays
+pub mod MadeArrays
 pub mod UnmetRows
 pub mod Expressions
-pub mod PlanSteps
+pub mod PlanSearch
 pub mod GoalBounds
 pub mod ShortLists
 pub mod EntryTests

@@ -1,11 +1,13 @@
 -- Rows at a point: the test of a row, and what the search for the first row that is not met says of all.
-use Rattle.std.proofs.Common.{◌≡◌, ℕ, ◌<◌, Bool, true, false, not, T, List, map, length, get_or, ℤ, ◌≤ℤ◌, Some, None, Option, Decides, MatchOption, refl, ap, ◌∙◌, arith}
+use Rattle.std.proofs.Common.{◌≡◌, ℕ, ◌<◌, ◌≤◌, Bool, true, false, not, T, List, map, length, get_or, ℤ, ◌≤ℤ◌, Some, None, Option, Decides, IfSome, sym, refl, ap, ◌∙◌, inl, inr, arith}
 use lib.Signed.{le_z}
 use Rattle.std.proofs.ByRecursion.{All-get_or, All-from_get_or}
 use Rattle.std.proofs.lemmas.Int.{ints}
-use Rattle.std.proofs.lemmas.Bool.{not-true, not-false, both_ways}
+use Rattle.std.proofs.lemmas.Bool.{not-true, not-false, both_ways, cases_lt, cond-true, lt-ltb}
 use Rattle.std.proofs.lemmas.List.{length-map, get_or-map}
-use Rattle.std.specs.List.{AllWithin, HoldsAt}
+use Rattle.std.specs.List.{position, position_or_len}
+use Rattle.std.proofs.lemmas.List.Quantifiers.{position-Some}
+use Rattle.std.proofs.lemmas.List.Sums.{fails_before_first}
 use Rattle.rows.specs.declared.numbers.Numbers.{Numbers}
 use Rattle.rows.specs.declared.written.WrittenRow.{WrittenRow}
 use Rattle.rows.specs.Firsts.{NoneBelow}
@@ -44,20 +46,26 @@ some_unmet point rows k l u h = record {
 
 -- the search over the code's rows
 module _ (point : List ℤ) (rows : List WrittenRow) where
-  abbrev pub Answers : Bool → WrittenRow → Type 0
-  Answers b row = meets point (row_of row) ≡ b
+  abbrev pub fails : WrittenRow → Bool
+  fails row = not (meets point (row_of row))
 
   -- what is known of the row at a place, as of the plain row
-  answered_at : (b : Bool) (k : ℕ) → k < length rows → HoldsAt (Answers b) rows k → unmet point (map row_of rows) k ≡ not b
-  answered_at b k l h =
-      let x = (within_at rows k l).0 in
-      ap not (ap (meets point) (get_or-map row_of rows k x zero_numbers l) ∙ h x)
+  fails_at : (k : ℕ) (b : Bool) → k < length rows → ((d : WrittenRow) → fails (get_or rows k d) ≡ b) → unmet point (map row_of rows) k ≡ b
+  fails_at k b l h = let x = (within_at rows k l).0 in ap (λ (r : Numbers). not (meets point r)) (get_or-map row_of rows k x zero_numbers l) ∙ h x
 
-  pub first_unmet_found : (r : Option ℕ) → MatchOption r (AllWithin (Answers true) rows 0 (length rows)) (λ i. (i < length rows) × HoldsAt (Answers false) rows i × AllWithin (Answers true) rows 0 i) → FirstUnmet point (map row_of rows) r
-  first_unmet_found None h =
+  pub first_unmet_found : (r : Option ℕ) → r ≡ position fails rows → IfSome r (λ i. i < length rows) → FirstUnmet point (map row_of rows) r
+  first_unmet_found None e h =
       let n = length-map rows row_of in
-      none_unmet point (map row_of rows) (λ k l. let m : k < length rows = omega (arith, n, l) in answered_at true k m (λ d. h k d (omega arith) m))
-  first_unmet_found (Some i) h =
+      none_unmet point (map row_of rows) (λ k l. let m : k < length rows = omega (arith, n, l) in fails_at k false m (λ d. fails_before_first fails rows k d (omega (arith, all, m))))
+    where
+      -- the search ends behind the last row
+      all : length rows ≤ position_or_len fails rows
+      all =
+          elim (cases_lt (position_or_len fails rows) (length rows)) [
+            | inl l ↦ let z : ◌≡◌ {A = Option ℕ} None (Some (position_or_len fails rows)) = e ∙ cond-true _ _ _ (lt-ltb _ _ l) in absurd (cc)
+            | inr l ↦ l
+          ]
+  first_unmet_found (Some i) e l =
       let n = length-map rows row_of in
-      let l = h.0 in
-      some_unmet point (map row_of rows) i (omega (arith, n, l)) (answered_at false i l h.1) (λ k m. answered_at true k (omega arith) (λ d. h.2 k d (omega arith) m))
+      let f = λ (d : WrittenRow). position-Some fails rows i d (sym e) in
+      some_unmet point (map row_of rows) i (omega (arith, n, l)) (fails_at i true l (λ d. (f d).1)) (λ k m. fails_at k false (omega arith) (λ d. (f d).2 k m))

@@ -3,3 +3,4 @@ pub mod Facts
 pub mod Questions
 pub mod Sheets
 pub mod Listings
+pub mod Goals

@@ -1,5 +1,6 @@
 // The goals of obligations: a row after an update, and a row with the choice expressions put in.
-ghost use Rattle.std.specs.Prelude.{◌≡◌, ℕ, ◌+◌, ◌≤◌, ◌-ℤ◌};
+ghost use Rattle.std.specs.Prelude.{◌≡◌, ℕ, ◌+◌, ◌≤◌, ◌+ℤ◌, ◌-ℤ◌};
+ghost use Rattle.obligations.specs.Goals.{Addends};
 ghost use Rattle.records.specs.Bounded.{plain_list};
 ghost use Rattle.records.specs.Records.{row_of, expression_of, transition_of, inner_of};
 ghost use Rattle.rows.specs.Limits.{columns, magnitude_of};
@@ -44,6 +45,23 @@ fn combined<const N: usize>(
     sum
 }
 
+// A number of a row and a number of that sum. One function for this and the next would be handed the operation that each
+// of them names.
+fn raised_by(number: i64, sum: i64) -> i64
+    requires { Addends number sum }
+    ensures { result ≡ number +ℤ sum }
+{
+    number + sum
+}
+
+// The one less the other.
+fn lowered_by(number: i64, sum: i64) -> i64
+    requires { Addends number sum }
+    ensures { result ≡ number -ℤ sum }
+{
+    number - sum
+}
+
 // The row's bound less the constant of that sum.
 fn lowered_bound<const N: usize>(
     row: &WrittenRow,
@@ -53,7 +71,10 @@ fn lowered_bound<const N: usize>(
     requires { from + N ≤ columns }
     ensures { result ≡ (row_of row.now).bound -ℤ combined_item (row_of row.now) from N (plain_list expression_of expressions.now) columns }
 {
-    row.numbers().bound - combined(row, from, expressions, COLUMNS)
+    lowered_by(
+        row.numbers().bound,
+        combined(row, from, expressions, COLUMNS),
+    )
 }
 
 // The row that holds before a transition exactly where the row holds after it.
@@ -75,7 +96,10 @@ fn kept_or_zero(inner: &Inner, row: &WrittenRow, column: usize) -> i64
     ensures { result ≡ kept_or_zero (row_of row.now) (inner_of inner.now).choices column }
 {
     if column < MOST_VALUES {
-        row.numbers().coefficients[column] + combined(row, MOST_VALUES, &inner.choices, column)
+        raised_by(
+            row.numbers().coefficients[column],
+            combined(row, MOST_VALUES, &inner.choices, column),
+        )
     } else {
         0
     }

@@ -1,9 +1,9 @@
 // The rows of a table and of a witness at a point: the first that is not met.
-ghost use Rattle.std.specs.Prelude.{◌≡◌, ℕ, ◌≤◌};
-ghost use Rattle.semantics.specs.Plans.{meets};
+ghost use Rattle.std.specs.Prelude.{◌≡◌, ℕ, ◌<◌, ◌≤◌, not, length, position, IfSome};
 ghost use Rattle.obligations.specs.Unmet.{FirstUnmet};
 ghost use Rattle.records.specs.Bounded.{plain_list};
 ghost use Rattle.records.specs.Records.{row_of, heading_of, transition_of, place_record_of, inner_of};
+ghost use Rattle.semantics.specs.Plans.{meets};
 
 use records::{BoundedList, Heading, Inner, Place, Transition};
 use rows::{Point, WrittenRow};
@@ -15,15 +15,20 @@ pub(crate) fn meets(point: &Point, row: &WrittenRow) -> bool
     row.is_met(point)
 }
 
+// The place of the first row that the point does not meet.
+fn place_of_unmet(rows: &[WrittenRow], point: &Point) -> Option<usize>
+    ensures value { result ≡ position (λ row. not (meets point.now.values (row_of row))) rows.now }
+    ensures bound { IfSome result (λ place. place < length rows.now) }
+{
+    rows.iter().position(|row| !meets(point, row))
+}
+
 // The index of the first row that the point does not meet; none where it meets all.
 fn first_unmet<const N: usize>(rows: &BoundedList<WrittenRow, N>, point: &Point) -> Option<u8>
     requires { N ≤ 256 }
     ensures { FirstUnmet point.now.values (plain_list row_of rows.now) result }
 {
-    rows.as_slice()
-        .iter()
-        .position(|row| !meets(point, row))
-        .map(|index| index as u8)
+    place_of_unmet(rows.as_slice(), point).map(|place| place as u8)
 }
 
 // The first initial row of a table that the point does not meet.

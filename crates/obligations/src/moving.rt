@@ -1,15 +1,17 @@
 // A step and a plan: the values after a transition, the transition that a plan takes, and the choices that it makes.
 ghost use Rattle.std.specs.Prelude.{◌≡◌, ℕ, map, pos, slice_index_or};
 ghost use Rattle.records.specs.Bounded.{plain_list};
-ghost use Rattle.records.specs.Records.{expression_of, transition_of, place_record_of, inner_of};
-ghost use Rattle.semantics.specs.Plans.{planned_at, choices_of};
+ghost use Rattle.records.specs.Records.{row_of, expression_of, transition_of, place_record_of, inner_of};
+ghost use Rattle.semantics.specs.Plans.{meets, planned_at, choices_of};
 ghost use Rattle.semantics.specs.Runs.{value_at, updated as updated_values};
 ghost use Rattle.semantics.specs.Vectors.{padded};
+ghost use Rattle.std.specs.List.{find};
+ghost use Rattle.std.specs.Option.{option_copied};
 
 use crate::meeting::meets;
 use crate::state::{State, at_rest};
 use records::limits::{MOST_CHOICES, MOST_VALUES};
-use records::{BoundedList, Inner, Place, Transition};
+use records::{BoundedList, Inner, Place, PlanEntry, Transition};
 use rows::{Expression, Point};
 use std::array;
 
@@ -44,15 +46,16 @@ pub fn choices_at(inner: &Inner, state: &State) -> [i64; MOST_CHOICES]
     values_at(&inner.choices, &at_rest(state))
 }
 
+// The first entry whose test the point meets.
+fn first_met<'a>(entries: &'a [PlanEntry], point: &Point) -> Option<&'a PlanEntry>
+    ensures { option_copied result ≡ find (λ entry. meets point.now.values (row_of entry.test)) entries.now }
+{
+    entries.iter().find(|entry| meets(point, &entry.test))
+}
+
 // The transition of the first entry of a plan whose test the state meets, else of the last entry.
 pub fn planned_at(place: &Place, state: &State) -> u16
     ensures { result ≡ planned_at (place_record_of place.now) state.now.values }
 {
-    let point = at_rest(state);
-    place
-        .tested
-        .as_slice()
-        .iter()
-        .find(|entry| meets(&point, &entry.test))
-        .map_or(place.last, |entry| entry.transition)
+    first_met(place.tested.as_slice(), &at_rest(state)).map_or(place.last, |entry| entry.transition)
 }

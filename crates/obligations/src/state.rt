@@ -1,5 +1,9 @@
 // The values of a state and the choices of a step, and the points that they are.
 ghost use Rattle.std.specs.Prelude.{◌≡◌};
+ghost use Rattle.records.specs.Limits.{most_values, most_choices};
+ghost use Rattle.rows.specs.Limits.{magnitude_of};
+ghost use Rattle.rows.specs.Points.{WithinFirst};
+ghost use Rattle.rows.specs.declared.limits.Limit.TheVariants.{StateValue};
 ghost use Rattle.semantics.specs.Vectors.{at_rest, point_of};
 
 use records::limits::{MOST_CHOICES, MOST_VALUES};
@@ -15,16 +19,24 @@ pub type Choices = Values<MOST_CHOICES>;
 pub fn at_rest(state: &State) -> Point
     ensures { result.values ≡ at_rest state.now.values }
 {
-    let no_choices = Choices::new([0; MOST_CHOICES]).unwrap();
-    point_of(state, &no_choices)
+    joined(&state.values(), &[0; MOST_CHOICES])
 }
 
 // The point of a state and of choices.
 pub fn point_of(state: &State, choices: &Choices) -> Point
     ensures { result.values ≡ point_of state.now.values choices.now.values }
 {
+    joined(&state.values(), &choices.values())
+}
+
+// The point of values and choices.
+fn joined(values: &[i64; MOST_VALUES], choices: &[i64; MOST_CHOICES]) -> Point
+    requires values { WithinFirst most_values (magnitude_of StateValue) values.now }
+    requires choices { WithinFirst most_choices (magnitude_of StateValue) choices.now }
+    ensures { result.values ≡ point_of values.now choices.now }
+{
     let mut all = [0; COLUMNS];
-    all[..MOST_VALUES].copy_from_slice(&state.values());
-    all[MOST_VALUES..].copy_from_slice(&choices.values());
+    all[..MOST_VALUES].copy_from_slice(&values[..]);
+    all[MOST_VALUES..].copy_from_slice(&choices[..]);
     Point::new(all).unwrap()
 }

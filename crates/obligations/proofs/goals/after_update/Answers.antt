@@ -10,7 +10,7 @@ use Rattle.records.specs.Records.{row_of, expression_of, transition_of}
 use Rattle.semantics.specs.Goals.{combined}
 use Rattle.semantics.specs.Laws.{UpdateGoal}
 use Rattle.semantics.proofs.GoalsMet.{update_goal}
-use Rattle.obligations.proofs.FilledArrays.{values_made}
+use Rattle.obligations.proofs.MadeArrays.{values_made}
 use Rattle.obligations.proofs.GoalBounds.{after_update_within}
 use Rattle.obligations.proofs.goals.after_update.Goals as goal
 

@@ -1,27 +1,23 @@
-use Rattle.std.proofs.Common.{ap}
+use Rattle.std.proofs.Common.{ℤ, ◌-ℤ◌, sym, ap, subst, w64, SFits, rules}
 use Rattle.rows.specs.declared.limits.Limit.TheVariants.{WrittenNumber}
 use Rattle.rows.specs.declared.numbers.Numbers.{Numbers}
 use Rattle.rows.specs.Limits.{columns, magnitude_of}
+use Rattle.rows.proofs.Bounds.{Bounded}
 use Rattle.records.specs.Bounded.{listed}
 use Rattle.records.specs.Records.{row_of}
-use Rattle.obligations.proofs.GoalBounds.{item_bounded, combined_bounded, Coded, coded_difference}
-use Rattle.obligations.proofs.goals.lowered_bound.Given as given
+use Rattle.obligations.specs.Goals.{sum_limit}
+use Rattle.obligations.proofs.GoalBounds.{item_bounded, combined_bounded, addends, worked_out}
 use Rattle.obligations.proofs.goals.lowered_bound.Goals as goal
-use Rattle.obligations.proofs.goals.lowered_bound.Goals.{After-combined}
-use Rattle.std.proofs.Common.{◌-ℤ◌, ℤ}
-use Rattle.records.specs.Bounded.{plain_list}
-use Rattle.records.specs.Records.{expression_of}
-use Rattle.semantics.specs.Goals.{combined}
 
--- the bound less the sum
-difference : (g : given.Over) (c : After-combined g) → Coded (λ (m n : ℤ). m -ℤ n) c.numbers.result.now.bound c.combined.result (row_of c.args.row.now).bound (combined (row_of c.args.row.now) c.args.from g.row.N (plain_list expression_of c.args.expressions.now) columns)
-difference g c =
-    coded_difference _ _ _ _ (ap (λ (n : Numbers). n.bound) c.numbers.ensures) c.combined.ensures
-    (item_bounded (magnitude_of WrittenNumber) (row_of c.args.row.now) columns c.args.row.now.held)
-    (combined_bounded c.args.row.now c.args.from g.row.N (listed c.args.expressions.now) columns c.requires)
-
-pub overflow_sub-result : goal.overflow_sub-result
-overflow_sub-result g c = (difference g c).fits
+pub lowered_by-requires : goal.lowered_by-requires
+lowered_by-requires g c =
+    let row = c.args.row.now in
+    addends _ _ (subst (Bounded (magnitude_of WrittenNumber)) (sym (ap (λ (n : Numbers). n.bound) c.numbers.ensures)) (item_bounded (magnitude_of WrittenNumber) (row_of row) columns row.held))
+    (subst (Bounded sum_limit) (sym c.combined.ensures) (combined_bounded row c.args.from g.row.N (listed c.args.expressions.now) columns c.requires))
 
 pub returns : goal.returns
-returns g c = (difference g c).is
+returns g c =
+    let fr : SFits w64 c.lowered_by.result = search rules in
+    let fa : SFits w64 c.numbers.result.now.bound = search rules in
+    let fb : SFits w64 c.combined.result = search rules in
+    worked_out (λ (x y : ℤ). x -ℤ y) _ _ _ _ _ fr fa fb c.lowered_by.ensures (ap (λ (n : Numbers). n.bound) c.numbers.ensures) c.combined.ensures

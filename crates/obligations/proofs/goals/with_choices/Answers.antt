@@ -8,7 +8,7 @@ use Rattle.records.specs.Records.{row_of, inner_of}
 use Rattle.semantics.specs.Goals.{kept_or_zero}
 use Rattle.semantics.specs.Laws.{ChoiceGoal}
 use Rattle.semantics.proofs.GoalsMet.{choice_goal}
-use Rattle.obligations.proofs.FilledArrays.{values_made}
+use Rattle.obligations.proofs.MadeArrays.{values_made}
 use Rattle.obligations.proofs.GoalBounds.{with_choices_within}
 use Rattle.obligations.proofs.goals.with_choices.Goals as goal
 

@@ -4,7 +4,7 @@ use Rattle.records.specs.Records.{expression_of}
 use Rattle.semantics.specs.Runs.{value_at}
 use Rattle.semantics.specs.Vectors.{padded}
 use Rattle.obligations.proofs.Expressions.{length_padded, get_or-padded}
-use Rattle.obligations.proofs.FilledArrays.{array_made}
+use Rattle.obligations.proofs.MadeArrays.{array_made}
 use Rattle.obligations.proofs.moving.values_at.Goals as goal
 
 pub returns : goal.returns
