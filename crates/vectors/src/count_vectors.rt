@@ -35,7 +35,6 @@ fn facts_and_rows(rt: HostRuntime) -> Result<(), Fail> {
             answer,
         )?;
     }
-    let mut sheet = [first(1, 1); 40];
     Ok(())
 }
 

@@ -1,7 +1,7 @@
 // The cut over the look-up: divisors, multipliers, lengths, rounding, the divided row's limit, the order of its tests.
 use crate::helpers::*;
 use methods::{Cut, LookUp};
-use rows::limits::{ITEMS, ROW_LIMIT};
+use rows::limits::{COLUMNS, ITEMS, ROW_LIMIT};
 use rows::{Answer, FaultKind, Numbers};
 use std::test::Fail;
 
@@ -212,7 +212,7 @@ fn divided_row_beyond_its_limit(rt: HostRuntime) -> Result<(), Fail> {
 // A column that is no multiple, in each column.
 #[test]
 fn indivisible_column(rt: HostRuntime) -> Result<(), Fail> {
-    for item in 0..8 {
+    for item in 0..COLUMNS {
         let mut sheet = [only(item, -3); 2];
         expect(
             &rt,

@@ -1,6 +1,6 @@
 // What the vectors are built of.
 use methods::{Claim, ProofMethod, ask};
-use rows::limits::{COLUMNS, ITEMS};
+use rows::limits::ITEMS;
 use rows::{Answer, Fault, FaultKind, Numbers};
 use std::process::Abort;
 use std::test::Fail;
@@ -16,10 +16,9 @@ pub fn first(c: i64, b: i64) -> Numbers {
 // The row with one number that is not zero, by its item.
 pub fn only(item: usize, number: i64) -> Numbers {
     let mut row = first(0, 0);
-    if item < COLUMNS {
-        row.coefficients[item] = number;
-    } else {
-        row.bound = number;
+    match row.coefficients.get_mut(item) {
+        Some(coefficient) => *coefficient = number,
+        None => row.bound = number,
     }
     row
 }
@@ -46,12 +45,8 @@ pub fn split_by(item: usize, number: i32) -> [u8; 39] {
     let mut bytes = [0; 39];
     bytes[0] = 1;
     if item < ITEMS {
-        let [a, b, c, d] = number.to_be_bytes();
         let at = 1 + 4 * item;
-        bytes[at] = a;
-        bytes[at + 1] = b;
-        bytes[at + 2] = c;
-        bytes[at + 3] = d;
+        bytes[at..at + 4].copy_from_slice(&number.to_be_bytes());
     }
     bytes
 }

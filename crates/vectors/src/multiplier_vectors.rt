@@ -3,6 +3,7 @@ use crate::helpers::*;
 use methods::Multipliers;
 use rows::limits::ROW_LIMIT;
 use rows::{Answer, FaultKind};
+use std::array::from_fn;
 use std::test::Fail;
 
 // The goal's multiplier, that of the one fact, and the answer: a ≤ 1 from a ≤ 1.
@@ -161,11 +162,8 @@ fn earlier_fault_wins_among_numbers(rt: HostRuntime) -> Result<(), Fail> {
 // column.
 #[test]
 fn greatest_sums(rt: HostRuntime) -> Result<(), Fail> {
-    let [high, low] = 10_000u16.to_be_bytes();
-    let mut bytes = [high; 66];
-    for k in 0..33 {
-        bytes[2 * k + 1] = low;
-    }
+    let weight = 10_000u16.to_be_bytes();
+    let bytes: [u8; 66] = from_fn(|k| weight[k % 2]);
     let goal = only(8, ROW_LIMIT);
     let mut high_bounds = [only(8, ROW_LIMIT); 32];
     let mut low_bounds = [only(8, -ROW_LIMIT); 32];
