@@ -2,8 +2,7 @@ pub mod First
 pub mod Ring
 pub mod Items
 pub mod Bounds
-pub mod MapInPlace
+pub mod ArrayMaps
 pub mod Opposites
 pub mod Chains
 pub mod Equalities
-pub mod Offsets

@@ -146,6 +146,9 @@ Movable offset (Ok u) = Unit {0}
 Movable offset (Err f) = f.place + offset < 2 ^ 64
 
 -- the same with the place, too, stopping at the largest that its type holds
+abbrev pub raised_within : ℕ → Fault → Fault
+raised_within offset f = record { kind = f.kind; place = min (f.place + offset) (2 ^ 64 - 1); depth = min (f.depth + 1) 255; item = f.item }
+
 abbrev pub moved_within : Said → ℕ → Said
 moved_within (Ok u) offset = Ok u
-moved_within (Err f) offset = Err (record { kind = f.kind; place = min (f.place + offset) (2 ^ 64 - 1); depth = min (f.depth + 1) 255; item = f.item })
+moved_within (Err f) offset = Err (raised_within offset f)

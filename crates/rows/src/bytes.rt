@@ -6,39 +6,25 @@ ghost use Rattle.rows.specs.Bytes.{word_at, number_at, signed};
 pub fn byte_at(bytes: &[u8], at: usize) -> u8
     ensures { result ≡ slice_index bytes.now at }
 {
-    if at < bytes.len() { bytes[at] } else { 0 }
-}
-
-// The number of two bytes.
-fn joined(high: u8, low: u8) -> u16
-    ensures { result ≡ 256 * high + low }
-{
-    256 * u16::from(high) + u16::from(low)
+    bytes.get(at).copied().unwrap_or(0)
 }
 
 // The number in two bytes.
 pub fn word_at(bytes: &[u8], at: usize) -> u16
     ensures { result ≡ word_at bytes.now at }
 {
-    joined(byte_at(bytes, at), byte_at(bytes, at.saturating_add(1)))
+    u16::from_be_bytes([byte_at(bytes, at), byte_at(bytes, at.saturating_add(1))])
 }
 
 // The signed number in four bytes, in two's complement.
 pub fn number_at(bytes: &[u8], at: usize) -> i64
     ensures { result ≡ number_at bytes.now at }
 {
-    let high = u32::from(word_at(bytes, at));
-    let low = u32::from(word_at(bytes, at.saturating_add(2)));
-    in_two_complement(65_536 * high + low)
-}
-
-// A number of 32 bits read in two's complement.
-fn in_two_complement(number: u32) -> i64
-    ensures { result ≡ signed number }
-{
-    if number < 2_147_483_648 {
-        i64::from(number)
-    } else {
-        i64::from(number) - 4_294_967_296
-    }
+    let number = [
+        byte_at(bytes, at),
+        byte_at(bytes, at.saturating_add(1)),
+        byte_at(bytes, at.saturating_add(2)),
+        byte_at(bytes, at.saturating_add(3)),
+    ];
+    i64::from(i32::from_be_bytes(number))
 }

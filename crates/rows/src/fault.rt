@@ -1,5 +1,5 @@
 // What a refused call, reader or question says.
-ghost use Rattle.rows.specs.Faults.{number_of, fault_of, moved as moved_by, moved_within, Movable};
+ghost use Rattle.rows.specs.Faults.{number_of, fault_of, raised_within, moved as moved_by, moved_within, Movable};
 ghost use Rattle.std.specs.Prelude.{◌≡◌};
 
 // Every fault of the product, by what is wrong.
@@ -122,6 +122,17 @@ impl Fault {
     {
         Fault::new(kind, 0, item)
     }
+
+    // The fault of a method below, as its layer reports it.
+    fn moved(self, offset: usize) -> Fault
+        ensures { result ≡ raised_within offset self }
+    {
+        Fault {
+            place: self.place.saturating_add(offset),
+            depth: self.depth.saturating_add(1),
+            ..self
+        }
+    }
 }
 
 // What a question, or a call that answers no value, says.
@@ -133,17 +144,5 @@ pub fn moved(answer: Answer, offset: usize) -> Answer
     ensures value { result ≡ moved_within answer offset }
     ensures exact { Movable offset answer → result ≡ moved_by offset answer }
 {
-    match answer {
-        Ok(()) => Ok(()),
-        Err(fault) => {
-            let place = fault.place.saturating_add(offset);
-            let depth = fault.depth.saturating_add(1);
-            Err(Fault {
-                kind: fault.kind,
-                place,
-                depth,
-                item: fault.item,
-            })
-        }
-    }
+    answer.map_err(|fault| fault.moved(offset))
 }

@@ -48,6 +48,6 @@ impl Limit {
         ensures { result ≡ lies_within (magnitude_of self) number }
     {
         let most = self.magnitude();
-        -most <= number && number <= most
+        (-most..=most).contains(&number)
     }
 }

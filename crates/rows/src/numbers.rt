@@ -1,5 +1,6 @@
 // Plain numbers in the shape of a row.
-ghost use Rattle.std.specs.Prelude.{◌≡◌, ℕ};
+ghost use Rattle.std.specs.Prelude.{◌≡◌, ℕ, ◌<◌, find, IfSome};
+ghost use Rattle.std.specs.List.{range_with_len};
 ghost use Rattle.rows.specs.Firsts.{IsFirst};
 ghost use Rattle.rows.specs.Limits.{magnitude_of, items};
 ghost use Rattle.rows.specs.Made.{HeldTo, unless_beyond};
@@ -25,11 +26,15 @@ impl Numbers {
     pub fn item(&self, item: usize) -> i64
         ensures { result ≡ item_of self.now item }
     {
-        if item < COLUMNS {
-            self.coefficients[item]
-        } else {
-            self.bound
-        }
+        self.coefficients.get(item).copied().unwrap_or(self.bound)
+    }
+
+    // The lowest item whose number passes the limit, as an index.
+    fn index_beyond(&self, limit: Limit) -> Option<usize>
+        ensures found { result ≡ find (beyond (magnitude_of limit) self.now) (range_with_len 0 items) }
+        ensures within { IfSome result (λ item. item < items) }
+    {
+        (0..ITEMS).find(|item| !limit.admits(self.item(*item)))
     }
 
     // The lowest item whose number passes the limit.
@@ -37,12 +42,7 @@ impl Numbers {
         ensures value { result ≡ first_beyond (magnitude_of limit) self.now }
         ensures first { IsFirst (beyond (magnitude_of limit) self.now) items result }
     {
-        for item in 0..ITEMS {
-            if !limit.admits(self.item(item)) {
-                return Some(item as u8);
-            }
-        }
-        None
+        self.index_beyond(limit).map(|item| item as u8)
     }
 
     // Nothing where every number lies within the limit, else the first that does not.

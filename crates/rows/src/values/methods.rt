@@ -1,7 +1,7 @@
 // Making values of a caller's numbers, reading them, and the sum of products at a point.
-ghost use Rattle.std.specs.Prelude.{◌≡◌, ℕ};
+ghost use Rattle.std.specs.Prelude.{◌≡◌, ℕ, pos, neg_ℤ, ◌≤ℤ◌};
 ghost use Rattle.rows.specs.Limits.{magnitude_of};
-ghost use Rattle.rows.specs.Points.{ValuesWithin};
+ghost use Rattle.rows.specs.Points.{ValuesWithin, dot_limit};
 ghost use Rattle.rows.specs.PointsMade.{ValuesFrom};
 ghost use Rattle.rows.specs.Shapes.{dot as dot_of};
 ghost use Rattle.rows.specs.declared.limits.Limit.TheVariants.{WrittenNumber};
@@ -33,7 +33,8 @@ impl Point {
     // The sum of coefficient × value over all columns.
     pub(crate) fn dot(&self, coefficients: &[i64; COLUMNS]) -> i64
         requires { ValuesWithin (magnitude_of WrittenNumber) coefficients.now }
-        ensures { result ≡ dot_of coefficients.now self.now.values }
+        ensures value { result ≡ dot_of coefficients.now self.now.values }
+        ensures within { (neg_ℤ (pos dot_limit) ≤ℤ result) × (result ≤ℤ pos dot_limit) }
     {
         let mut sum: i64 = 0;
         for (coefficient, value) in coefficients.iter().zip(self.values.iter()) {

@@ -1,27 +1,26 @@
-use Rattle.std.proofs.Common.{◌≡◌, ◌<◌, ◌≤◌, length, get_or, pos, ◌-ℤ◌, neg_ℤ, arith, w64, to_z, of_z, rules}
-use Rattle.std.proofs.lemmas.Int.{ints}
+use Rattle.std.proofs.Common.{◌≡◌, ◌<◌, length, get_or, pos, neg_ℤ, subst, lit<, rules}
 use Rattle.rows.specs.declared.limits.Limit.TheVariants.{WrittenNumber}
 use Rattle.rows.specs.Limits.{columns, magnitude_of}
+use Rattle.rows.proofs.ArrayMaps.{asked_each, mapped}
 use Rattle.rows.proofs.Bounds.{bounded}
-use Rattle.rows.proofs.MapInPlace.{written_more, written_all}
 use Rattle.rows.proofs.written.methods.negated.Goals as goal
 
-pub overflow_sub-turned : goal.overflow_sub-turned
-overflow_sub-turned c =
-    let b = bounded (magnitude_of WrittenNumber) (get_or c.args.numbers c.loop-column.column (pos 0)) (c.requires c.loop-column.column c.loop-column-test.true) in
-    omega (arith, ints)
-
-pub loop-column-preserved : goal.loop-column-preserved
-loop-column-preserved c =
-    let x = get_or c.args.numbers c.loop-column.column (pos 0) in
-    let b = bounded (magnitude_of WrittenNumber) x (c.requires c.loop-column.column c.loop-column-test.true) in
-    let l : length c.args.numbers ≡ columns = search rules in
-    let h : c.loop-column.column < length c.args.numbers = omega arith in
-    let v : to_z w64 (of_z w64 (pos 0 -ℤ to_z w64 (of_z w64 x))) ≡ neg_ℤ x = omega (arith, ints) in
-    written_more neg_ℤ c.args.numbers c.loop-column.turned c.loop-column.column (pos 0) _ h c.loop-column.invariant v
+pub map-requires : goal.map-requires
+map-requires c =
+    let n : length c.args.numbers ≡ columns = search rules in (
+      lit< tt,
+      (
+        lit< tt,
+        (
+          lit< tt,
+          asked_each _ _ c.args.numbers _ (pos 0) (λ q k l.
+              let b = bounded (magnitude_of WrittenNumber) (get_or c.args.numbers k (pos 0)) (c.requires k (subst (λ m. k < m) n l)) in
+              (b.low, b.high)),
+        ),
+      ),
+    )
 
 pub returns : goal.returns
 returns c =
-    let l : length c.args.numbers ≡ columns = search rules in
-    let h : length c.args.numbers ≤ c.loop-column.column = omega arith in
-    written_all neg_ℤ c.args.numbers c.loop-column.turned c.loop-column.column h c.loop-column.invariant
+    let n : length c.args.numbers ≡ columns = search rules in
+    mapped _ _ neg_ℤ c.args.numbers c.map.result columns (pos 0) n c.map.ensures.items (λ p q k y l e. search rules)

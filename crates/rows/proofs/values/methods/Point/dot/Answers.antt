@@ -1,9 +1,9 @@
-use Rattle.std.proofs.Common.{◌≡◌, ◌+◌, ◌*◌, ◌<◌, length, pos, ap, ◌∙◌, subst, arith, lit<, rules, length-append}
+use Rattle.std.proofs.Common.{◌≡◌, ◌+◌, ◌*◌, ◌<◌, length, pos, subst, arith, lit<, rules, length-append}
 use Rattle.std.proofs.lemmas.Slice.Zip.{zip_turn, zip_end}
 use Rattle.rows.specs.declared.limits.Limit.TheVariants.{WrittenNumber, StateValue}
 use Rattle.rows.specs.Limits.{columns, magnitude_of}
-use Rattle.rows.specs.Shapes.{dot_to, dot}
-use Rattle.rows.proofs.Bounds.{DotTurn, dot_turn}
+use Rattle.rows.specs.Shapes.{dot}
+use Rattle.rows.proofs.Bounds.{summed_at, DotTurn, dot_turn}
 use Rattle.rows.proofs.values.methods.Point.dot.Goals as goal
 
 -- a turn, at the next pair of the two lists
@@ -29,4 +29,5 @@ returns c =
     let n : length c.args.coefficients.now ≡ columns = search rules in
     let m : length c.args.self.now.values ≡ columns = search rules in
     let k : length c.loop-coefficient.yielded ≡ columns = omega (arith, e, n, m) in
-    c.loop-coefficient.invariant.so_far ∙ ap (λ k. dot_to k c.args.coefficients.now c.args.self.now.values) k
+    let s = summed_at _ _ _ _ k c.loop-coefficient.invariant in
+    record { value = s.so_far; within = (s.small.low, s.small.high) }
