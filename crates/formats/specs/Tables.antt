@@ -99,12 +99,9 @@ transition_says shape room last offset rest =
     and_then rows_say TableWritten (over_values shape) offset rest guard_from (byte_at rest guard_count_from)
     and_then rows_say TableWritten shape offset rest (updates_from shape rest) shape.values
 
--- the piece at an offset as a transition piece, and the offset behind it
+-- the piece at an offset as a transition piece
 abbrev pub next_says : Shape → List ℕ → ℕ → ℕ → ℕ → Said
 next_says shape bytes room last at = piece_says TableLength bytes at and_then transition_says shape room last at (piece_at bytes at)
-
-abbrev pub next_at : Shape → List ℕ → ℕ → TransitionData × ℕ
-next_at shape bytes at = (transition_at shape (piece_at bytes at), piece_end bytes at)
 
 -- the transitions in the pieces from an offset to the end, at most `room` of them
 unfoldable pub transitions_at : Shape → List ℕ → ℕ → ℕ → List TransitionData

@@ -1,6 +1,6 @@
 -- Reading a witness against a table: from bytes to the witness or the first fault. What the bytes say is one
 -- definition, and the tests, in their order, another.
-use Rattle.std.specs.Prelude.{ℕ, ◌+◌, ◌-◌, ◌*◌, ◌^◌, ◌<◌, Bool, false, cond, ◌&&◌, List, [], ◌∷◌, ◌++◌, map, length, Some, None, Ok, Option, Result, ◌==◌, nat_le, nat_lt}
+use Rattle.std.specs.Prelude.{ℕ, ◌+◌, ◌-◌, ◌*◌, Bool, false, cond, ◌&&◌, List, [], ◌∷◌, ◌++◌, map, length, Some, None, Ok, Option, Result, ◌==◌, nat_le, nat_lt}
 use Rattle.std.specs.Option.{unwrap_or}
 use Rattle.rows.specs.declared.fault.Fault.{Fault}
 use Rattle.rows.specs.declared.fault.FaultKind.TheVariants.{TableCount, WitnessVersion, WitnessLength, WitnessCount, WitnessNumber, WitnessWritten, WitnessReference}
@@ -236,11 +236,6 @@ entry_test named place offset rest from size e =
 unfoldable pub plan_says : Shape → Named → ℕ → List ℕ → Said
 plan_says shape named offset rest =
     each_says (entry_test named (word_at rest number_from) offset rest (plan_from shape rest) (entry_stride shape)) (entries shape rest)
-
--- the bytes of a piece that its references stand in have an offset
-abbrev pub Reached : Shape → PartData → Type 0
-Reached shape (PlacePart p) = rest_from p.offset + place_length shape p.rest < 2 ^ 64
-Reached shape (InnerPart p) = rest_from p.offset + number_from < 2 ^ 64
 
 abbrev pub reference_by : Shape → Named → PartData → Said
 reference_by shape named (PlacePart p) = plan_says shape named p.offset p.rest

@@ -12,10 +12,22 @@ pub const LARGE: (u8, u8) = (6, 2);
 // The offset of a byte that is changed, and the byte that is put there.
 pub type Change = (usize, u8);
 
+// Up to two bytes that are changed, and the number of bytes then.
+#[derive(Clone, Copy)]
+pub struct Changes {
+    pub bytes: [Change; 2],
+    pub length: usize,
+}
+
 // No change of a byte, and the length of the bytes as they were built.
 pub const NONE: Change = (usize::MAX, 0);
 
 pub const WHOLE: usize = usize::MAX;
+
+pub const UNCHANGED: Changes = Changes {
+    bytes: [NONE, NONE],
+    length: WHOLE,
+};
 
 // The written number that is stored at an offset.
 pub fn stored(at: usize) -> i32 {
@@ -124,15 +136,14 @@ fn set(bytes: &mut Vec<u8>, at: usize, byte: u8) -> Result<(), Fail> {
 }
 
 // Changes up to two bytes, and then the number of bytes: zeros fill it up.
-pub fn change(bytes: &mut Vec<u8>, changes: (Change, Change, usize)) -> Result<(), Fail> {
-    let (one, other, length) = changes;
-    for (at, byte) in [one, other] {
+pub fn change(bytes: &mut Vec<u8>, changes: Changes) -> Result<(), Fail> {
+    for (at, byte) in changes.bytes {
         if at != usize::MAX {
             set(bytes, at, byte)?;
         }
     }
-    if length != WHOLE {
-        bytes.resize(length, 0)?;
+    if changes.length != WHOLE {
+        bytes.resize(changes.length, 0)?;
     }
     Ok(())
 }

@@ -52,21 +52,24 @@ fn cut_tables(rt: HostRuntime) -> Result<(), Fail> {
     cut_table(&rt, &bytes, 176, 337)
 }
 
-// What a witness cut to a length tells. Place pieces of one size are followed from an offset by inner-transition pieces
-// of another, as many of which are needed as there are places: until then the first plan entry is not inner.
-fn cut_to(
-    length: usize,
-    places: (usize, usize),
-    from: usize,
-    inner: usize,
+// How a witness is laid out: so many place pieces of one size, then from an offset on inner-transition pieces of another,
+// as many of which are needed as there are places: until then the first plan entry, at its offset, is not inner.
+#[derive(Clone, Copy)]
+struct Layout {
+    places: usize,
+    place_size: usize,
+    inners_from: usize,
+    inner_size: usize,
     entry: usize,
-) -> Expected<(usize, usize)> {
-    let (count, place) = places;
-    let in_places = length < from;
+}
+
+// What a witness cut to a length tells.
+fn cut_to(length: usize, layout: Layout) -> Expected<(usize, usize)> {
+    let in_places = length < layout.inners_from;
     let (whole, left) = if in_places {
-        pieces(1, length, place)
+        pieces(1, length, layout.place_size)
     } else {
-        pieces(from, length, inner)
+        pieces(layout.inners_from, length, layout.inner_size)
     };
     if length == 0 {
         Err((FaultKind::WitnessVersion, 0))
@@ -74,32 +77,23 @@ fn cut_to(
         Err((FaultKind::WitnessLength, length.saturating_sub(left)))
     } else if length == 1 {
         Ok((0, 0))
-    } else if in_places || whole < count {
-        Err((FaultKind::WitnessReference, entry))
+    } else if in_places || whole < layout.places {
+        Err((FaultKind::WitnessReference, layout.entry))
     } else {
-        Ok((count, whole))
+        Ok((layout.places, whole))
     }
 }
 
 // Every cut of a witness.
-fn cut_witness(
-    rt: &impl Abort,
-    against: &[u8],
-    bytes: &[u8],
-    places: (usize, usize),
-    from: usize,
-    inner: usize,
-    entry: usize,
-) -> Result<(), Fail> {
+fn cut_witness(rt: &impl Abort, against: &[u8], bytes: &[u8], layout: Layout) -> Result<(), Fail> {
     for length in 0..=bytes.len() {
-        let expected = cut_to(length, places, from, inner, entry);
         expect_witness(
             rt,
             &length,
             against,
             &bytes[0..length],
             WITNESS_MEMORY,
-            expected,
+            cut_to(length, layout),
         )?;
     }
     Ok(())
@@ -107,9 +101,23 @@ fn cut_witness(
 
 #[test]
 fn cut_witnesses(rt: HostRuntime) -> Result<(), Fail> {
-    cut_witness(&rt, &SAMPLE_TABLE, &SAMPLE_WITNESS, (1, 33), 34, 6, 32)?;
+    let sample = Layout {
+        places: 1,
+        place_size: 33,
+        inners_from: 34,
+        inner_size: 6,
+        entry: 32,
+    };
+    cut_witness(&rt, &SAMPLE_TABLE, &SAMPLE_WITNESS, sample)?;
     let against = table(rt.alloc(), (LARGE, 24, (6, 4)))?;
     let bytes = witness(rt.alloc(), (LARGE, (12, 1, 25, 0), (6, 4, 2)))?;
     assert_eq!(rt; bytes.len(), 6_421);
-    cut_witness(&rt, &against, &bytes, (12, 267), 3_205, 134, 176)
+    let largest = Layout {
+        places: 12,
+        place_size: 267,
+        inners_from: 3_205,
+        inner_size: 134,
+        entry: 176,
+    };
+    cut_witness(&rt, &against, &bytes, largest)
 }

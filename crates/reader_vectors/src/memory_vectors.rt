@@ -24,18 +24,13 @@ static TABLES: [((usize, usize, usize), Change, Expected<usize>); 13] = [
 
 #[test]
 fn memory_of_tables(rt: HostRuntime) -> Result<(), Fail> {
-    for i in 0..TABLES.len() {
-        let (memory, one, expected) = TABLES[i];
+    for (i, &(memory, one, expected)) in TABLES.iter().enumerate() {
+        let changes = Changes {
+            bytes: [one, NONE],
+            length: WHOLE,
+        };
         let built = (SMALL, 2, (1, 1));
-        expect_built_table(
-            &rt,
-            &i,
-            rt.alloc(),
-            built,
-            (one, NONE, WHOLE),
-            memory,
-            expected,
-        )?;
+        expect_built_table(&rt, &i, rt.alloc(), built, changes, memory, expected)?;
     }
     Ok(())
 }
@@ -56,18 +51,13 @@ static WITNESSES: [((usize, usize), Change, Expected<(usize, usize)>); 9] = [
 
 #[test]
 fn memory_of_witnesses(rt: HostRuntime) -> Result<(), Fail> {
-    for i in 0..WITNESSES.len() {
-        let (memory, one, expected) = WITNESSES[i];
+    for (i, &(memory, one, expected)) in WITNESSES.iter().enumerate() {
+        let changes = Changes {
+            bytes: [one, NONE],
+            length: WHOLE,
+        };
         let built = (SMALL, (2, 11, 13, 0), (1, 2, 1));
-        expect_built_witness(
-            &rt,
-            &i,
-            rt.alloc(),
-            built,
-            (one, NONE, WHOLE),
-            memory,
-            expected,
-        )?;
+        expect_built_witness(&rt, &i, rt.alloc(), built, changes, memory, expected)?;
     }
     Ok(())
 }

@@ -54,13 +54,10 @@ fn expect_pieces(
             return Ok(());
         }
     };
-    for i in 0..count.min(4) {
-        assert_eq!(rt; handed(&mut reader), Ok(Some(PIECES[i])), "vector {vector}");
+    for piece in PIECES.into_iter().take(count) {
+        assert_eq!(rt; handed(&mut reader), Ok(Some(piece)), "vector {vector}");
     }
-    let told = match end {
-        Some(fault) => Err(fault),
-        None => Ok(None),
-    };
+    let told = end.map_or(Ok(None), Err);
     assert_eq!(rt;
         (handed(&mut reader), handed(&mut reader)),
         (told, told),
@@ -71,10 +68,13 @@ fn expect_pieces(
 
 #[test]
 fn pieces_handed_out(rt: HostRuntime) -> Result<(), Fail> {
-    for i in 0..VECTORS.len() {
-        let (one, length, count, expected) = VECTORS[i];
+    for (i, &(one, length, count, expected)) in VECTORS.iter().enumerate() {
         let mut bytes = witness(rt.alloc(), (SMALL, (2, 11, 13, 0), (1, 2, 1)))?;
-        change(&mut bytes, (one, NONE, length))?;
+        let changes = Changes {
+            bytes: [one, NONE],
+            length,
+        };
+        change(&mut bytes, changes)?;
         expect_pieces(&rt, i, &bytes, count, fault_of(expected))?;
     }
     Ok(())

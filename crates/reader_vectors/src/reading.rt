@@ -2,7 +2,7 @@
 use crate::building::*;
 use records::{BoundedList, Inner, Place, PlanEntry, Register, Transition};
 use rows::{Expression, Fault, FaultKind, WrittenRow};
-use sequences::{read_table, read_witness, test_table, test_witness};
+use sequences::{TableView, read_table, read_witness, test_table, test_witness};
 use std::alloc::Global;
 use std::fmt::Debug;
 use std::process::Abort;
@@ -13,15 +13,12 @@ pub type Expected<T> = Result<T, (FaultKind, usize)>;
 
 // The fault that is expected.
 pub fn fault_of<T: Drop>(expected: Expected<T>) -> Option<Fault> {
-    match expected {
-        Ok(_) => None,
-        Err((kind, place)) => Some(Fault {
-            kind,
-            place,
-            depth: 0,
-            item: 0,
-        }),
-    }
+    expected.err().map(|(kind, place)| Fault {
+        kind,
+        place,
+        depth: 0,
+        item: 0,
+    })
 }
 
 // The number of the records that memory is filled with; no vector has it.
@@ -101,7 +98,7 @@ pub fn expect_built_table(
     vector: &impl Debug,
     heap: Global,
     built: Table,
-    changes: (Change, Change, usize),
+    changes: Changes,
     memory: (usize, usize, usize),
     expected: Expected<usize>,
 ) -> Result<(), Fail> {
@@ -115,7 +112,11 @@ fn told_by_test(table: &[u8], bytes: &[u8]) -> Result<Option<Fault>, Fault> {
     let mut records = [unread_transition(); 24];
     let mut transitions = Register::new(&mut records);
     let heading = read_table(table, &mut transitions, 12, 24)?;
-    Ok(test_witness(bytes, &heading, &transitions).err())
+    let view = TableView {
+        heading: &heading,
+        transitions: transitions.as_slice(),
+    };
+    Ok(test_witness(bytes, view).err())
 }
 
 // Reads a witness against a table into registers that hold an unread record each, with memory for so many places, at
@@ -134,7 +135,11 @@ fn left_by_witness(
     let mut inners = Register::new(&mut inner_records[0..memory.1.min(25)]);
     places.push(unread_place());
     inners.push(unread_inner());
-    let fault = read_witness(bytes, &heading, &transitions, &mut places, &mut inners).err();
+    let view = TableView {
+        heading: &heading,
+        transitions: transitions.as_slice(),
+    };
+    let fault = read_witness(bytes, view, &mut places, &mut inners).err();
     let kept = (places.find(UNREAD).is_some(), inners.find(UNREAD).is_some());
     Ok((fault, (places.len(), inners.len()), kept))
 }
@@ -171,7 +176,7 @@ pub fn expect_built_witness(
     vector: &impl Debug,
     heap: Global,
     built: Witness,
-    changes: (Change, Change, usize),
+    changes: Changes,
     memory: (usize, usize),
     expected: Expected<(usize, usize)>,
 ) -> Result<(), Fail> {

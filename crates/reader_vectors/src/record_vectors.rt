@@ -3,7 +3,7 @@ use crate::building::*;
 use crate::reading::*;
 use records::{Heading, Inner, Place, Register, Transition};
 use rows::{Expression, Fault, Numbers, WrittenRow};
-use sequences::{read_table, read_witness};
+use sequences::{TableView, read_table, read_witness};
 use std::process::Abort;
 use std::test::Fail;
 
@@ -16,7 +16,7 @@ fn expect_numbers(
 ) -> Result<(), Fail> {
     let values = usize::from(shape.0);
     let choices = usize::from(shape.1);
-    for column in 0..8 {
+    for (column, &coefficient) in found.coefficients.iter().enumerate() {
         let number = if column < values {
             i64::from(stored(at.saturating_add(4 * column)))
         } else if column >= 6 && column - 6 < choices {
@@ -24,7 +24,7 @@ fn expect_numbers(
         } else {
             0
         };
-        assert_eq!(rt; found.coefficients[column], number);
+        assert_eq!(rt; coefficient, number);
     }
     let bound = stored(at.saturating_add(4 * (values + choices)));
     assert_eq!(rt; found.bound, i64::from(bound));
@@ -37,10 +37,10 @@ fn expect_row(
     shape: (u8, u8),
     at: usize,
 ) -> Result<(), Fail> {
-    match found {
-        Some(row) => expect_numbers(rt, row.numbers(), shape, at),
-        None => Err(Fail::new("no row")),
-    }
+    let Some(row) = found else {
+        return Err(Fail::new("no row"));
+    };
+    expect_numbers(rt, row.numbers(), shape, at)
 }
 
 fn expect_expression(
@@ -64,7 +64,7 @@ fn last_of_table(bytes: &[u8]) -> Result<(Heading, Option<Transition>), Fault> {
     let mut records = [unread_transition(); 24];
     let mut register = Register::new(&mut records);
     let heading = read_table(bytes, &mut register, 12, 24)?;
-    Ok((heading, register.get(register.len().saturating_sub(1))))
+    Ok((heading, register.as_slice().last().copied()))
 }
 
 // A table with 24 transitions: its values and choices, its initial rows and guard rows, and where the last initial row,
@@ -89,7 +89,7 @@ fn expect_heading(
         (found.start, found.initial.len()),
         (1, usize::from(initial))
     );
-    let last = found.initial.get(usize::from(initial.saturating_sub(1)));
+    let last = found.initial.as_slice().last().copied();
     expect_row(rt, last, (shape.0, 0), at)
 }
 
@@ -104,16 +104,15 @@ fn expect_transition(
     assert_eq!(rt; (found.number, found.start, found.target), (24, 1, 4));
     let counts = (usize::from(guards), usize::from(shape.0));
     assert_eq!(rt; (found.guard.len(), found.updates.len()), counts);
-    let guard = found.guard.get(counts.0.saturating_sub(1));
+    let guard = found.guard.as_slice().last().copied();
     expect_row(rt, guard, (shape.0, 0), at.0)?;
-    let update = found.updates.get(counts.1.saturating_sub(1));
+    let update = found.updates.as_slice().last().copied();
     expect_expression(rt, update, shape, at.1)
 }
 
 #[test]
 fn records_of_tables(rt: HostRuntime) -> Result<(), Fail> {
-    for i in 0..TABLES.len() {
-        let (shape, (initial, guards), (row, guard, update)) = TABLES[i];
+    for &(shape, (initial, guards), (row, guard, update)) in TABLES.iter() {
         let bytes = table(rt.alloc(), (shape, 24, (initial, guards)))?;
         let (heading, last) = last_of_table(&bytes)?;
         expect_heading(&rt, &heading, shape, initial, row)?;
@@ -134,7 +133,11 @@ fn last_of_witness(table: &[u8], bytes: &[u8]) -> Result<(Option<Place>, Option<
     let mut inner_records = [unread_inner(); 24];
     let mut places = Register::new(&mut place_records);
     let mut inners = Register::new(&mut inner_records);
-    read_witness(bytes, &heading, &transitions, &mut places, &mut inners)?;
+    let view = TableView {
+        heading: &heading,
+        transitions: transitions.as_slice(),
+    };
+    read_witness(bytes, view, &mut places, &mut inners)?;
     Ok((places.get(11), inners.get(23)))
 }
 
@@ -159,9 +162,9 @@ fn expect_place(
     assert_eq!(rt; (found.number, found.last), (12, 1));
     let counts = (usize::from(rows.0), usize::from(rows.1.saturating_sub(1)));
     assert_eq!(rt; (found.condition.len(), found.tested.len()), counts);
-    let condition = found.condition.get(counts.0.saturating_sub(1));
+    let condition = found.condition.as_slice().last().copied();
     expect_row(rt, condition, (values, 0), at.0)?;
-    let Some(entry) = found.tested.get(counts.1.saturating_sub(1)) else {
+    let Some(entry) = found.tested.as_slice().last() else {
         return Err(Fail::new("no entry"));
     };
     assert_eq!(rt; entry.transition, 1);
@@ -180,16 +183,15 @@ fn expect_inner(
     let counts = (usize::from(restrictions), usize::from(shape.1));
     assert_eq!(rt; found.number, 24);
     assert_eq!(rt; (found.restrictions.len(), found.choices.len()), counts);
-    let restriction = found.restrictions.get(counts.0.saturating_sub(1));
+    let restriction = found.restrictions.as_slice().last().copied();
     expect_row(rt, restriction, shape, at.0)?;
-    let choice = found.choices.get(counts.1.saturating_sub(1));
+    let choice = found.choices.as_slice().last().copied();
     expect_expression(rt, choice, (shape.0, 0), at.1)
 }
 
 #[test]
 fn records_of_witnesses(rt: HostRuntime) -> Result<(), Fail> {
-    for i in 0..WITNESSES.len() {
-        let (shape, rows, in_place, in_inner) = WITNESSES[i];
+    for &(shape, rows, in_place, in_inner) in WITNESSES.iter() {
         let against = table(rt.alloc(), (shape, 24, (0, 0)))?;
         let bytes = witness(rt.alloc(), (shape, (12, 1, 25, 0), rows))?;
         let (Some(place), Some(inner)) = last_of_witness(&against, &bytes)? else {

@@ -178,20 +178,28 @@ static LIMITS: [(Table, Expected<usize>); 23] = [
 
 #[test]
 fn limits_of_tables(rt: HostRuntime) -> Result<(), Fail> {
-    for i in 0..LIMITS.len() {
-        let (built, expected) = LIMITS[i];
-        let changes = (NONE, NONE, WHOLE);
-        expect_built_table(&rt, &i, rt.alloc(), built, changes, TABLE_MEMORY, expected)?;
+    for (i, &(built, expected)) in LIMITS.iter().enumerate() {
+        expect_built_table(
+            &rt,
+            &i,
+            rt.alloc(),
+            built,
+            UNCHANGED,
+            TABLE_MEMORY,
+            expected,
+        )?;
     }
     Ok(())
 }
 
 #[test]
 fn faults_of_tables(rt: HostRuntime) -> Result<(), Fail> {
-    for i in 0..VECTORS.len() {
-        let (transitions, one, other, length, expected) = VECTORS[i];
+    for (i, &(transitions, one, other, length, expected)) in VECTORS.iter().enumerate() {
         let built = (SMALL, transitions, (1, 1));
-        let changes = (one, other, length);
+        let changes = Changes {
+            bytes: [one, other],
+            length,
+        };
         expect_built_table(&rt, &i, rt.alloc(), built, changes, TABLE_MEMORY, expected)?;
     }
     Ok(())

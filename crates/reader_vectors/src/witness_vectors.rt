@@ -301,15 +301,13 @@ static LIMITS: [(Witness, Expected<(usize, usize)>); 27] = [
 
 #[test]
 fn limits_of_witnesses(rt: HostRuntime) -> Result<(), Fail> {
-    for i in 0..LIMITS.len() {
-        let (built, expected) = LIMITS[i];
-        let changes = (NONE, NONE, WHOLE);
+    for (i, &(built, expected)) in LIMITS.iter().enumerate() {
         expect_built_witness(
             &rt,
             &i,
             rt.alloc(),
             built,
-            changes,
+            UNCHANGED,
             WITNESS_MEMORY,
             expected,
         )?;
@@ -319,10 +317,12 @@ fn limits_of_witnesses(rt: HostRuntime) -> Result<(), Fail> {
 
 #[test]
 fn faults_of_witnesses(rt: HostRuntime) -> Result<(), Fail> {
-    for i in 0..VECTORS.len() {
-        let ((pieces, entries), one, other, length, expected) = VECTORS[i];
+    for (i, &((pieces, entries), one, other, length, expected)) in VECTORS.iter().enumerate() {
         let built = (SMALL, pieces, (1, entries, 1));
-        let changes = (one, other, length);
+        let changes = Changes {
+            bytes: [one, other],
+            length,
+        };
         expect_built_witness(
             &rt,
             &i,

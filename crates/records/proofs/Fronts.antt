@@ -1,89 +1,21 @@
--- Lists that are the front of their memory: a read at a place, a search, one element more, one replaced.
-use Rattle.std.proofs.Common.{◌≡◌, ℕ, suc, ◌+◌, ◌-◌, ◌<◌, ◌≤◌, min, Bool, true, false, cond, eqb, ltb, List, [], ◌∷◌, ◌++◌, map, length, get_or, take, drop, set, Some, None, Option, unwrap_or, sym, refl, ap, ◌∙◌, inl, inr, ⊎_elim, le_of_lt, arith, length-set, length-take, MatchOption}
-use native.Mathlib.Nat.{min-eq_left, min-eq_right}
+-- Lists that are the front of their memory: a read past the end, a write, a push, and a search by number.
+use Rattle.std.proofs.Common.{◌≡◌, ℕ, suc, ◌+◌, ◌-◌, ◌<◌, ◌≤◌, min, Bool, true, false, cond, eqb, ltb, List, [], ◌∷◌, map, length, take, set, Some, None, Option, sym, refl, ap, ◌∙◌, inl, inr, arith, MatchOption}
 use lib.Seq.{take-set-lt}
-use Rattle.std.proofs.lemmas.List.{at_drop_more, at_drop_all, take_all, length-take-le, take_more_set, drop-drop, drop-set-lt, set_past}
-use Rattle.std.proofs.lemmas.Bool.{cases_lt, lt-ltb, le-ltb, cond-true, cond-false, cases_Bool}
+use Rattle.std.proofs.lemmas.List.{at_drop_all, take_min}
+use Rattle.std.proofs.lemmas.Bool.{lt-ltb, cond-true, cases_Bool}
 use Rattle.std.specs.Option.{option_map}
-use Rattle.records.specs.Lists.{place_of, at, first, first_with, among}
-
-pub at_read : {X : Type 0} → (xs : List X) (i : ℕ) (x : X) → i < length xs → x ≡ get_or xs i x → Some x ≡ at i xs
-at_read xs i x h e = ap (λ v. Some v) e ∙ sym (at_drop_more first xs i x h)
+use Rattle.records.specs.Lists.{place_of, at, first, first_with}
 
 pub at_past : {X : Type 0} → (xs : List X) (i : ℕ) → length xs ≤ i → ◌≡◌ {A = Option X} None (at i xs)
 at_past xs i h = sym (at_drop_all first xs i h)
 
--- a read by cases
-pub read_cases : {X : Type 0} → (xs : List X) (i : ℕ) (r : Option X) → MatchOption r (length xs ≤ i) (λ x. (i < length xs) × (x ≡ get_or xs i x)) → r ≡ at i xs
-read_cases xs i None h = at_past xs i h
-read_cases xs i (Some x) h = at_read xs i x h.0 h.1
-
--- one record on
-pub place_step :
-    {X : Type 0} → (num : X → ℕ) (n i : ℕ) (xs : List X) (x : X) (b : Bool) →
-    i < length xs → x ≡ get_or xs i x → eqb (num x) n ≡ b → place_of num n i (drop i xs) ≡ cond b (Some i) (place_of num n (i + 1) (drop (i + 1) xs))
-place_step num n i xs x b h e t =
-    at_drop_more (place_of num n i) xs i x h
-    ∙ ap (λ v. cond (eqb (num v) n) (Some i) (place_of num n (i + 1) (drop (i + 1) xs))) (sym e)
-    ∙ ap (λ c. cond c (Some i) (place_of num n (i + 1) (drop (i + 1) xs))) t
-
-pub place_none :
-    {X : Type 0} → (num : X → ℕ) (n i : ℕ) (xs : List X) → length xs ≤ i → place_of num n i (drop i xs) ≡ None
-place_none num n i xs h = at_drop_all (place_of num n i) xs i h
-
 -- what a cut at the smaller of two lengths keeps
 pub cut : {X : Type 0} → (xs : List X) (n : ℕ) → take (min n (length xs)) xs ≡ take n xs
-cut xs n =
-    ⊎_elim (λ (h : n < length xs). ap (λ j. take j xs) (min-eq_left (le_of_lt h)))
-    (λ (h : length xs ≤ n). ap (λ j. take j xs) (min-eq_right h) ∙ take_all (length xs) xs (omega arith) ∙ sym (take_all n xs h))
-    (cases_lt n (length xs))
+cut xs n = take_min n xs
 
--- an element put behind the first n, where the memory has room for it
-pub record Pushed {X : Type 0} (xs : List X) (n k : ℕ) (x : X) : Type 0 where
-  pub took : true ≡ ltb (length (take n xs)) (length xs)
-  pub front : take k (set xs n x) ≡ take n xs ++ x ∷ []
-  pub rest : drop k (set xs n x) ≡ drop 1 (drop n xs)
-
-pub pushed : {X : Type 0} (xs : List X) (n k : ℕ) (x : X) → n < length xs → k ≡ n + 1 → Pushed xs n k x
-pushed xs n k x h e =
-    record {
-      took = sym (ap (λ j. ltb j (length xs)) (length-take-le n xs (le_of_lt h)) ∙ lt-ltb n (length xs) h);
-      front = ap (λ j. take j (set xs n x)) e ∙ take_more_set xs n x h;
-      rest = ap (λ j. drop j (set xs n x)) e ∙ drop-set-lt (n + 1) xs n x (omega arith) ∙ sym (drop-drop 1 n xs);
-    }
-
--- where it has none
-pub full : {X : Type 0} (xs : List X) (n : ℕ) → length xs ≤ n → false ≡ ltb (length (take n xs)) (length xs)
-full xs n h = sym (ap (λ ys. ltb (length ys) (length xs)) (take_all n xs h) ∙ le-ltb (length xs) (length xs) (omega arith))
-
--- an element of the first n replaced, where one of them stands at the place
-pub record Replaced {X : Type 0} (xs ys : List X) (n i : ℕ) (x : X) (b : Bool) : Type 0 where
-  pub took : b ≡ ltb i (length (take n xs))
-  pub front : take n ys ≡ set (take n xs) i x
-  pub rest : drop n ys ≡ drop n xs
-  pub room : length ys ≡ length xs
-
-pub replaced : {X : Type 0} (xs ys : List X) (n i : ℕ) (x : X) (b : Bool) → b ≡ ltb i (min n (length xs)) → ys ≡ cond b (set xs i x) xs → Replaced xs ys n i x b
-replaced xs ys n i x b t e =
-    let m = length-take n xs in
-    elim (cases_lt i (min n (length xs))) [
-      | inl h ↦
-          let s : ys ≡ set xs i x = e ∙ cond-true b _ _ (t ∙ lt-ltb i _ h) in
-          record {
-            took = t ∙ ap (ltb i) (sym m);
-            front = ap (take n) s ∙ take-set-lt n xs i x (omega arith);
-            rest = ap (drop n) s ∙ drop-set-lt n xs i x (omega arith);
-            room = ap length s ∙ length-set xs i x;
-          }
-      | inr h ↦
-          let s : ys ≡ xs = e ∙ cond-false b _ _ (t ∙ le-ltb i _ h) in
-          record {
-            took = t ∙ ap (ltb i) (sym m);
-            front = ap (take n) s ∙ sym (set_past (take n xs) i x (omega arith));
-            rest = ap (drop n) s;
-            room = ap length s;
-          }
-    ]
+-- a write among the first n
+pub taken_set : {X : Type 0} (xs : List X) (n i : ℕ) (x : X) → i < n → take n (set xs i x) ≡ set (take n xs) i x
+taken_set xs n i x h = take-set-lt n xs i x h
 
 -- what a push tells where there is room
 pub took_held : {X : Type 0} (b : Bool) (n m : ℕ) (xs ys zs : List X) → b ≡ ltb n m → n < m → xs ≡ cond b ys zs → xs ≡ ys
@@ -114,17 +46,3 @@ first_plain plain num mun n (x ∷ xs) h =
       | inl t ↦ let s : eqb (mun (plain x)) n ≡ true = ap (λ k. eqb k n) (h x) ∙ t in rw (t, s)
       | inr f ↦ let s : eqb (mun (plain x)) n ≡ false = ap (λ k. eqb k n) (h x) ∙ f in rw (f, s) (first_plain plain num mun n xs h)
     ]
-
--- an element read at a place
-pub read_at : {X : Type 0} (xs : List X) (i : ℕ) (d : X) → i < length xs → unwrap_or (at i xs) d ≡ get_or xs i d
-read_at xs i d h = ap (λ o. unwrap_or o d) (at_drop_more first xs i d h)
-
--- one number on
-pub among_step : (n i : ℕ) (xs : List ℕ) (v : ℕ) (b : Bool) → i < length xs → v ≡ unwrap_or (at i xs) 0 → eqb v n ≡ b → among n (drop i xs) ≡ cond b true (among n (drop (i + 1) xs))
-among_step n i xs v b h e t =
-    at_drop_more (among n) xs i 0 h
-    ∙ ap (λ k. cond (eqb k n) true (among n (drop (i + 1) xs))) (sym (e ∙ read_at xs i 0 h))
-    ∙ ap (λ c. cond c true (among n (drop (i + 1) xs))) t
-
-pub among_none : (n i : ℕ) (xs : List ℕ) → length xs ≤ i → among n (drop i xs) ≡ false
-among_none n i xs h = at_drop_all (among n) xs i h

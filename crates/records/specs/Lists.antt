@@ -1,5 +1,6 @@
 -- What stands at a place of a list, and the place of the first element with a number.
-use Rattle.std.specs.Prelude.{ℕ, ◌+◌, Bool, true, false, cond, List, [], ◌∷◌, drop, Some, None, Option, ◌==◌}
+use Rattle.std.specs.Prelude.{ℕ, Bool, true, false, cond, List, [], ◌∷◌, drop, Some, None, Option, ◌==◌}
+use Rattle.std.specs.List.{position_from}
 
 abbrev pub first : {A : Type 0} → List A → Option A
 first [] = None
@@ -11,8 +12,7 @@ at i xs = first (drop i xs)
 
 -- the place, counted from i, of the first element with that number
 abbrev pub place_of : {A : Type 0} → (A → ℕ) → ℕ → ℕ → List A → Option ℕ
-place_of num n i [] = None
-place_of num n i (x ∷ xs) = cond (num x == n) (Some i) (place_of num n (i + 1) xs)
+place_of num n i xs = position_from (λ x. num x == n) i xs
 
 -- the first element with that number
 abbrev pub first_with : {A : Type 0} → (A → ℕ) → ℕ → List A → Option A

@@ -66,10 +66,6 @@ heading_of h = record { values = h.values; choices = h.choices; start = h.start;
 abbrev pub transition_of : Transition → TransitionData
 transition_of t = record { number = t.number; start = t.start; target = t.target; guard = plain_list row_of t.guard; updates = plain_list expression_of t.updates }
 
--- with the offset behind its piece
-abbrev pub next_transition : Transition × ℕ → TransitionData × ℕ
-next_transition x = (transition_of x.0, x.1)
-
 abbrev pub entry_of : PlanEntry → EntryData
 entry_of e = record { transition = e.transition; test = row_of e.test }
 

@@ -4,6 +4,7 @@ ghost use Rattle.std.specs.Prelude.{◌≡◌, ℕ, ◌≤◌, length};
 use std::alloc::AllocError;
 
 // The first `count` of the items; those behind them are not part of the list.
+// An array with a count, and no `Vec`: the checker's core runs in fixed memory.
 pub struct BoundedList<T, const N: usize> {
     items: [T; N],
     count: usize,
@@ -11,7 +12,7 @@ pub struct BoundedList<T, const N: usize> {
     ghost within: { count ≤ N },
 }
 
-// By hand: `Clone` is not derived for a struct with a ghost field and a type parameter. A copy is the same list.
+// By hand: a derived `Clone` of a struct with a ghost field and a type parameter is refused. A copy is the same list.
 impl<T: Copy, const N: usize> Clone for BoundedList<T, N> {
     ghost is_clone = { λ x y. y ≡ x };
 

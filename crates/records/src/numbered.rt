@@ -10,6 +10,7 @@ pub trait Numbered {
         ensures { result ≡ number self.now };
 }
 
+// An impl for each record by hand: the repository's own macros may write none.
 pub mod inner;
 pub mod place;
 pub mod transition;

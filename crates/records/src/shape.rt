@@ -30,19 +30,15 @@ impl Shape {
     {
         let values = u16::from(self.values);
         let choices = u16::from(self.choices);
-        if item >= COLUMNS {
-            return Some(values + choices);
-        }
-        if item >= MOST_VALUES {
+        if item < MOST_VALUES {
+            let value = item as u16;
+            (value < values).then_some(value)
+        } else if item < COLUMNS {
             let choice = (item - MOST_VALUES) as u16;
-            return if choice < choices {
-                Some(values + choice)
-            } else {
-                None
-            };
+            (choice < choices).then_some(values + choice)
+        } else {
+            Some(values + choices)
         }
-        let value = item as u16;
-        if value < values { Some(value) } else { None }
     }
 
     // How many bytes a stored row or expression takes.

@@ -2,3 +2,5 @@ pub mod RecordsSame
 pub mod HandedSteps
 pub mod WitnessWalks
 pub mod Filling
+pub mod ArraysMade
+pub mod TransitionsRead

@@ -1,5 +1,5 @@
 -- The walk over the pieces of a witness, as the code makes it: what holds before each piece.
-use Rattle.std.proofs.Common.{◌≡◌, ℕ, ◌^◌, ◌<◌, ◌≤◌, List, ◌∷◌, ◌++◌, map, length, Ok, Err, sym, refl, ap, ◌∙◌, subst, append_assoc, arith}
+use Rattle.std.proofs.Common.{◌≡◌, ℕ, ◌<◌, ◌≤◌, List, ◌∷◌, ◌++◌, map, length, Ok, Err, sym, refl, ap, ◌∙◌, subst, append_assoc, arith}
 use Rattle.std.proofs.lemmas.List.{append-nil}
 use Rattle.rows.specs.declared.fault.Fault.{Fault}
 use Rattle.rows.specs.declared.fault.FaultKind.TheVariants.{WitnessLength}
@@ -10,8 +10,9 @@ use Rattle.sequences.specs.Handed.{ReaderData, standing, part_found, passed_at}
 use Rattle.formats.specs.Pieces.{pieces_from, piece_end, piece_says}
 use Rattle.records.specs.Records.{PlaceData, InnerData}
 use Rattle.formats.specs.Walks.{PieceData, piece_data, left, pieces_at, walk_says}
-use Rattle.formats.specs.Witnesses.{PartData, PlacePart, InnerPart, Progress, Named, begun, further, further_by, part_of, kind_says, part_says, body_by, record_by, places_with, inners_with, places_of, inners_of, pieces_of, pieces_say, witness_at, numbers_in, reference_by, references_say, Reached}
-use Rattle.sequences.proofs.HandedSteps.{Given, part_is, part_located}
+use Rattle.formats.specs.Witnesses.{PartData, PlacePart, InnerPart, Progress, Named, begun, further, further_by, part_of, kind_says, part_says, body_by, record_by, places_with, inners_with, places_of, inners_of, pieces_of, pieces_say, witness_at, numbers_in, reference_by, references_say}
+use Rattle.sequences.specs.TableGiven.{Reached}
+use Rattle.sequences.proofs.HandedSteps.{Given, part_is}
 use Rattle.sequences.proofs.RecordsSame.{same_progress}
 use Rattle.formats.proofs.WitnessParts.{place_plan, kind_reaches}
 use Rattle.formats.proofs.WalkSteps.{pieces_more, pieces_all, walk_fault, walk_more, walk_all, walk_step}
@@ -103,14 +104,10 @@ module _ (shape : Shape) (bytes : List ℕ) where
       next_references named = ap (references_say shape named) next_piece ∙ ap (λ (q : PartData). reference_by shape named q and_then references_say shape named (ahead (passed_at r))) (sym g.part)
 
 -- a piece that has passed reaches its references
-pub passed_reached : (shape : Shape) (s : Progress) (r : ReaderData) (p : PartData) → Given r p → length r.bytes < 2 ^ 64 → Ok tt ≡ body_by shape s p → Reached shape p
-passed_reached shape s r (PlacePart d) g h e =
-    let l = part_located r (PlacePart d) g h in
+pub passed_reached : (shape : Shape) (s : Progress) (r : ReaderData) (p : PartData) → Given r p → Ok tt ≡ body_by shape s p → Reached shape p
+passed_reached shape s r (PlacePart d) g e =
     let k = (place_plan shape s.places s.inners d.offset d.rest (sym e)).2 in
-    omega (arith, l, k)
-passed_reached shape s r (InnerPart d) g h e =
-    let l = part_located r (InnerPart d) g h in
+    omega (arith, k)
+passed_reached shape s r (InnerPart d) g e =
     let f = (both (piece_says WitnessLength r.bytes r.at) (kind_says (piece_data r.bytes r.at)) (sym g.found)).1 in
-    let n = kind_reaches (piece_data r.bytes r.at) f in
-    let m : 1 ≤ length d.rest = subst (λ (q : PieceData). 1 ≤ length q.rest) (sym (part_is r (InnerPart d) g)) n in
-    omega (arith, l, m)
+    subst (λ (q : PieceData). 1 ≤ length q.rest) (sym (part_is r (InnerPart d) g)) (kind_reaches (piece_data r.bytes r.at) f)

@@ -1,5 +1,5 @@
 -- What the code makes of stored rows and expressions: the values that the definitions give, or the first fault.
-use Rattle.std.specs.Prelude.{◌≡◌, ℕ, ◌+◌, ◌^◌, ◌<◌, length, Ok, Err, Result}
+use Rattle.std.specs.Prelude.{◌≡◌, ℕ, Ok, Err, Result}
 use Rattle.rows.specs.declared.fault.Fault.{Fault}
 use Rattle.rows.specs.declared.fault.FaultKind.{FaultKind}
 use Rattle.rows.specs.declared.numbers.Numbers.{Numbers}
@@ -7,12 +7,8 @@ use Rattle.records.specs.declared.bounded.BoundedList.{BoundedList}
 use Rattle.sequences.specs.declared.piece.Piece.{Piece}
 use Rattle.records.specs.declared.shape.Shape.{Shape}
 use Rattle.records.specs.Bounded.{plain_list}
-use Rattle.formats.specs.Pieces.{rest_from, giving}
+use Rattle.formats.specs.Pieces.{giving}
 use Rattle.formats.specs.StoredRows.{row_at, row_says, rows_at, rows_say}
-
--- a piece whose bytes all have an offset
-abbrev pub Located : Piece → Type 0
-Located p = rest_from p.offset + length p.rest.now < 2 ^ 64
 
 -- a result with its plain value in the place of the code's
 abbrev pub plainly : {T X : Type 0} → (T → X) → Result T Fault → Result X Fault

@@ -2,10 +2,14 @@
 #![tactic(auto)]
 
 pub mod admission;
+mod named;
 pub mod piece;
+mod pieces;
 mod references;
 pub mod stored;
 pub mod table;
+mod transitions;
+pub mod view;
 pub mod witness;
 
 pub use admission::{read_witness, test_witness};
@@ -16,4 +20,5 @@ pub use records::{
     bounded, heading, limits, register, shape,
 };
 pub use table::{read_table, test_table};
+pub use view::TableView;
 pub use witness::{WitnessPiece, WitnessReader};

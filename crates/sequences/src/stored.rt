@@ -1,7 +1,7 @@
 // Rows and expressions that stand in bytes.
+// A piece and a shape are no struct of their own: the rows of one piece have two shapes.
 ghost use Rattle.std.specs.Prelude.{◌≡◌, ℕ, ◌+◌, ◌*◌, ◌^◌, ◌<◌, ◌≤◌, length};
-ghost use Rattle.formats.specs.Pieces.{rest_from};
-ghost use Rattle.sequences.specs.StoredMade.{Located, row_from, rows_from};
+ghost use Rattle.sequences.specs.StoredMade.{row_from, rows_from};
 ghost use Rattle.formats.specs.StoredRows.{item_at, row_at};
 ghost use Rattle.records.specs.Slots.{stride};
 
@@ -10,29 +10,24 @@ use records::{BoundedList, Shape, Written};
 use rows::bytes::number_at;
 use rows::limits::COLUMNS;
 use rows::{Fault, FaultKind, Numbers};
+use std::array;
 
 // The number of an item of the row at an offset; a column that is not stored is zero.
 fn item_at(bytes: &[u8], shape: Shape, at: usize, item: usize) -> i64
     ensures { result ≡ item_at shape bytes.now at item }
 {
-    match shape.slot(item) {
-        None => 0,
-        Some(slot) => number_at(bytes, at.saturating_add(4 * usize::from(slot))),
-    }
+    shape.slot(item).map_or(0, |slot| {
+        number_at(bytes, at.saturating_add(4 * usize::from(slot)))
+    })
 }
 
 // The numbers of the row at an offset, not yet tested.
 fn numbers_at(bytes: &[u8], shape: Shape, at: usize) -> Numbers
     ensures { result ≡ row_at shape bytes.now at }
 {
-    let mut coefficients = [0; COLUMNS];
-    for column in 0..COLUMNS {
-        coefficients[column] = item_at(bytes, shape, at, column);
-    }
-    let bound = item_at(bytes, shape, at, COLUMNS);
     Numbers {
-        coefficients,
-        bound,
+        coefficients: array::from_fn(|column| item_at(bytes, shape, at, column)),
+        bound: item_at(bytes, shape, at, COLUMNS),
     }
 }
 
@@ -43,7 +38,7 @@ pub(crate) fn row_at<T: Written>(
     at: usize,
     kind: FaultKind,
 ) -> Result<T, Fault>
-    requires { rest_from piece.offset + at + stride shape < 2 ^ 64 }
+    requires { at + stride shape ≤ length piece.rest.now }
     ensures { row_from T.Written.plain kind shape piece.entry at result }
 {
     T::written(numbers_at(piece.rest, shape, at)).map_err(|too_large| {
@@ -62,11 +57,12 @@ pub(crate) fn rows_at<T: Written, const N: usize>(
     kind: FaultKind,
 ) -> Result<BoundedList<T, N>, Fault>
     requires room { count ≤ N }
-    requires located { rest_from piece.offset + from + stride shape * count < 2 ^ 64 }
+    requires within { from + stride shape * count ≤ length piece.rest.now }
     ensures { rows_from T.Written.plain kind shape piece.entry from count result }
 {
     let mut rows = BoundedList::new(T::zero());
     let stride = shape.stride();
+    // `i` counts rows and indexes no list: offsets by `step_by` read no plainer.
     for i in 0..count {
         let row = row_at(piece, shape, from + stride * i, kind)?;
         rows.push(row);

@@ -1,23 +1,23 @@
 // Reading a table.
-ghost use Rattle.std.specs.Prelude.{◌≡◌, ℕ, ◌+◌, ◌≤◌, [], map, length, drop, Ok};
-ghost use Rattle.formats.specs.Pieces.{giving, pieces_from, piece_end};
-ghost use Rattle.records.specs.Records.{heading_of, transition_of, next_transition};
+ghost use Rattle.std.specs.Prelude.{◌≡◌, ℕ, ◌≤◌, [], map, length, drop, Ok};
+ghost use Rattle.formats.specs.Pieces.{giving, pieces_from};
+ghost use Rattle.records.specs.Records.{heading_of, transition_of};
 ghost use Rattle.formats.specs.Exact.{TableExactly};
 ghost use Rattle.formats.specs.Placed.{Placed};
-ghost use Rattle.sequences.specs.StoredMade.{Located, plainly};
+ghost use Rattle.sequences.specs.StoredMade.{plainly};
 ghost use Rattle.records.specs.Held.{held, behind, room, ReadInto};
-ghost use Rattle.formats.specs.Tables.{heading_at, heading_says, transition_at, transition_says, transitions_say, next_says, next_at, transitions_at, table_at, content_says, table_says, memory_says, open_says};
-ghost use Rattle.records.specs.Limits.{most_values, most_transitions};
+ghost use Rattle.formats.specs.Tables.{heading_at, heading_says, table_at, content_says, table_says, memory_says, open_says};
+ghost use Rattle.sequences.specs.TransitionsHanded.{reading_of, coming, coming_say};
 
-use crate::piece::{LENGTH_BYTES, PIECES_FROM, Piece, piece_at, require, version_test};
+use crate::piece::Piece;
+use crate::pieces::{PIECES_FROM, piece_at, require, version_test};
 use crate::stored::rows_at;
+use crate::transitions::TransitionReader;
 use formats::bytes_fit;
 use records::limits::{
-    MOST_CHOICES, MOST_GUARDS, MOST_INITIAL, MOST_INNERS, MOST_PLACES, MOST_TRANSITIONS,
-    MOST_VALUES,
+    MOST_CHOICES, MOST_INITIAL, MOST_INNERS, MOST_PLACES, MOST_TRANSITIONS, MOST_VALUES,
 };
 use records::{Heading, Register, Shape, Transition};
-use rows::bytes::word_at;
 use rows::{Answer, Fault, FaultKind};
 
 // Where the fields of a heading stand in its rest.
@@ -31,20 +31,8 @@ const INITIAL_COUNT_FROM: usize = 4;
 
 const INITIAL_FROM: usize = 5;
 
-// Where the fields of a transition piece stand in its rest.
-const NUMBER_FROM: usize = 0;
-
-const LEFT_FROM: usize = 2;
-
-const REACHED_FROM: usize = 4;
-
-const GUARD_COUNT_FROM: usize = 6;
-
-const GUARD_FROM: usize = 7;
-
 // The heading in a piece.
 fn heading_from(piece: Piece<'_>) -> Result<Heading, Fault>
-    requires { Located piece }
     ensures { plainly heading_of result ≡ giving (heading_says piece.entry.offset piece.entry.rest.now) (heading_at piece.entry.rest.now) }
 {
     piece.reaches(VALUES_FROM + 1, FaultKind::TableLength)?;
@@ -69,82 +57,12 @@ fn heading_from(piece: Piece<'_>) -> Result<Heading, Fault>
     })
 }
 
-// The transition in a piece, where `room` more may come and the one before has the number `last`.
-fn transition_from(
-    piece: Piece<'_>,
-    shape: Shape,
-    room: usize,
-    last: u16,
-) -> Result<Transition, Fault>
-    requires located { Located piece }
-    requires values { shape.values ≤ most_values }
-    ensures { plainly transition_of result ≡ giving (transition_says shape room last piece.entry.offset piece.entry.rest.now) (transition_at shape piece.entry.rest.now) }
+// Tests the transitions that are still to come.
+fn transitions_test(mut reader: TransitionReader<'_>) -> Answer
+    ensures { result ≡ coming_say (reading_of reader.entry) }
 {
-    piece.reaches(GUARD_COUNT_FROM + 1, FaultKind::TableLength)?;
-    require(0 < room, Fault::at(FaultKind::TableCount, piece.offset))?;
-    let rows = piece.count_at(GUARD_COUNT_FROM, 0, MOST_GUARDS, FaultKind::TableCount)?;
-    let count = usize::from(rows);
-    let values = usize::from(shape.values);
-    let plain = shape.over_values();
-    let updates_from = GUARD_FROM + plain.stride() * count;
-    piece.is_long(
-        updates_from + shape.stride() * values,
-        FaultKind::TableLength,
-    )?;
-    let number = piece.number_above(NUMBER_FROM, last, FaultKind::TableNumber)?;
-    let start = piece.number_above(LEFT_FROM, 0, FaultKind::TableNumber)?;
-    let target = piece.number_above(REACHED_FROM, 0, FaultKind::TableNumber)?;
-    let guard = rows_at(piece, plain, GUARD_FROM, count, FaultKind::TableWritten)?;
-    let updates = rows_at(piece, shape, updates_from, values, FaultKind::TableWritten)?;
-    Ok(Transition {
-        number,
-        start,
-        target,
-        guard,
-        updates,
-    })
-}
-
-// The transition in the piece at an offset, and where the next piece begins.
-fn transition_at(
-    bytes: &[u8],
-    at: usize,
-    shape: Shape,
-    room: usize,
-    last: u16,
-) -> Result<(Transition, usize), Fault>
-    requires within { at ≤ length bytes.now }
-    requires values { shape.values ≤ most_values }
-    ensures { plainly next_transition result ≡ giving (next_says shape bytes.now room last at) (next_at shape bytes.now at) }
-{
-    let piece = piece_at(bytes, at, FaultKind::TableLength)?;
-    let transition = transition_from(piece, shape, room, last)?;
-    Ok((transition, piece.end()))
-}
-
-// Tests the transitions from an offset to the end.
-fn transitions_test(bytes: &[u8], from: usize, shape: Shape) -> Answer
-    requires within { from ≤ length bytes.now }
-    requires values { shape.values ≤ most_values }
-    ensures { result ≡ transitions_say shape bytes.now most_transitions 0 from }
-{
-    let mut at = from;
-    let mut room = MOST_TRANSITIONS;
-    let mut last = 0;
-    while at < bytes.len() {
-        let (transition, end) = transition_at(bytes, at, shape, room, last)?;
-        last = transition.number;
-        room -= 1;
-        at = end;
-    }
+    while let Some(_) = reader.next()? {}
     Ok(())
-}
-
-// Where the transitions begin.
-fn transitions_from(bytes: &[u8]) -> usize
-    ensures { result ≡ piece_end bytes.now pieces_from }
-{
-    PIECES_FROM + LENGTH_BYTES + usize::from(word_at(bytes, PIECES_FROM))
 }
 
 // Tests all that follows the version, and hands out the heading.
@@ -154,7 +72,7 @@ fn content_test(bytes: &[u8]) -> Result<Heading, Fault>
 {
     let piece = piece_at(bytes, PIECES_FROM, FaultKind::TableLength)?;
     let heading = heading_from(piece)?;
-    transitions_test(bytes, transitions_from(bytes), heading.shape())?;
+    transitions_test(TransitionReader::new(bytes, &heading))?;
     Ok(heading)
 }
 
@@ -162,33 +80,23 @@ fn content_test(bytes: &[u8]) -> Result<Heading, Fault>
 fn memory_test(transitions: usize, places: usize, inners: usize) -> Answer
     ensures { result ≡ memory_says transitions places inners }
 {
-    if MOST_TRANSITIONS <= transitions && MOST_PLACES <= places && MOST_INNERS <= inners {
-        Ok(())
-    } else {
-        Err(Fault::at(FaultKind::TableCount, 0))
-    }
+    require(
+        MOST_TRANSITIONS <= transitions && MOST_PLACES <= places && MOST_INNERS <= inners,
+        Fault::at(FaultKind::TableCount, 0),
+    )
 }
 
-// Puts the transitions of bytes that have passed every test into an empty register.
-fn fill(bytes: &[u8], from: usize, shape: Shape, register: &mut Register<'_, Transition>) -> Answer
-    requires within { from ≤ length bytes.now }
-    requires values { shape.values ≤ most_values }
-    requires passed { Ok tt ≡ transitions_say shape bytes.now most_transitions 0 from }
+// Puts the transitions that are still to come, which pass every test, into an empty register.
+fn fill(mut reader: TransitionReader<'_>, register: &mut Register<'_, Transition>) -> Answer
+    requires passed { Ok tt ≡ coming_say (reading_of reader) }
     requires empty { held register.old ≡ [] }
-    requires room { most_transitions ≤ room register.old }
+    requires room { reader.room ≤ room register.old }
     ensures passed { result ≡ Ok tt }
-    ensures held { map transition_of (held register.new) ≡ transitions_at shape bytes.now most_transitions from }
+    ensures held { map transition_of (held register.new) ≡ coming (reading_of reader.entry) }
     ensures behind { behind register.new ≡ drop (length (held register.new)) (behind register.old) }
 {
-    let mut at = from;
-    let mut room = MOST_TRANSITIONS;
-    let mut last = 0;
-    while at < bytes.len() {
-        let (transition, end) = transition_at(bytes, at, shape, room, last)?;
+    while let Some(transition) = reader.next()? {
         register.push(transition);
-        last = transition.number;
-        room -= 1;
-        at = end;
     }
     Ok(())
 }
@@ -227,7 +135,7 @@ fn read_into(
     memory_test(transitions.capacity(), places, inners)?;
     let heading = content_test(bytes)?;
     transitions.clear();
-    fill(bytes, transitions_from(bytes), heading.shape(), transitions)?;
+    fill(TransitionReader::new(bytes, &heading), transitions)?;
     Ok(heading)
 }
 

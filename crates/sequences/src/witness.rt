@@ -2,21 +2,22 @@
 ghost use Rattle.std.specs.Prelude.{◌≡◌, ℕ, ◌+◌, ◌-◌, ◌*◌, ◌^◌, ◌<◌, ◌≤◌, length, is_ok, if◌then◌else◌};
 ghost use Rattle.records.specs.Limits.{most_choices, most_tested};
 ghost use Rattle.sequences.specs.Handed.{piece_of, data_of, record_of, progress_of, reader_of, standing, handed_at, passed_at};
-ghost use Rattle.formats.specs.Pieces.{giving, rest_from, pieces_from, version_says};
+ghost use Rattle.formats.specs.Pieces.{giving, pieces_from, version_says};
 ghost use Rattle.rows.specs.declared.fault.FaultKind.TheVariants.{WitnessVersion};
 ghost use Rattle.std.specs.Option.{option_map};
-ghost use Rattle.records.specs.Records.{entry_of, place_record_of, inner_of};
-ghost use Rattle.sequences.specs.StoredMade.{Located, plainly};
+ghost use Rattle.records.specs.Records.{entry_of, place_record_of, inner_of, heading_of, shape_of};
+ghost use Rattle.sequences.specs.StoredMade.{plainly};
 ghost use Rattle.records.specs.Bounded.{plain_list};
-ghost use Rattle.formats.specs.Witnesses.{last_of, entry_from, entry_stride, tested_at, tested_say, place_at, place_says, inner_at, inner_says, kind_says, part_of, within, begun, body_by, further_by, record_by, pieces_say, witness_at, numbers_in};
+ghost use Rattle.formats.specs.Witnesses.{last_of, entry_from, entry_stride, tested_at, tested_say, place_at, place_says, inner_at, inner_says, kind_says, part_of, begun, body_by, further_by, record_by, pieces_say, witness_at, numbers_in};
 ghost use Rattle.records.specs.Bounded.{listed};
 
-use crate::piece::{PIECES_FROM, Piece, piece_at, require, version_test};
+use crate::piece::Piece;
+use crate::pieces::{PIECES_FROM, piece_at, require, version_test};
 use crate::stored::{row_at, rows_at};
 use records::limits::{
     MOST_CONDITIONS, MOST_ENTRIES, MOST_INNERS, MOST_PLACES, MOST_RESTRICTIONS, MOST_TESTED,
 };
-use records::{BoundedList, Inner, Place, PlanEntry, Shape, Written};
+use records::{BoundedList, Heading, Inner, Place, PlanEntry, Shape, Written};
 use rows::bytes::{byte_at, word_at};
 use rows::{Answer, Fault, FaultKind, WrittenRow};
 
@@ -40,7 +41,7 @@ fn tested_from(
     count: usize,
 ) -> Result<BoundedList<PlanEntry, MOST_TESTED>, Fault>
     requires room { count ≤ most_tested }
-    requires located { rest_from piece.offset + entry_from shape from count < 2 ^ 64 }
+    requires within { entry_from shape from count ≤ length piece.rest.now }
     ensures { plainly (plain_list entry_of) result ≡ giving (tested_say shape piece.entry.offset piece.entry.rest.now from count) (tested_at shape piece.entry.rest.now from count) }
 {
     let mut entries = BoundedList::new(PlanEntry {
@@ -48,6 +49,7 @@ fn tested_from(
         test: WrittenRow::zero(),
     });
     let stride = TRANSITION_BYTES + shape.over_values().stride();
+    // `i` counts entries and indexes no list: offsets by `step_by` read no plainer.
     for i in 0..count {
         let at = from + stride * i;
         let plain = shape.over_values();
@@ -67,7 +69,7 @@ fn tested_from(
 fn last_of<const N: usize>(numbers: &BoundedList<u16, N>) -> u16
     ensures { result ≡ last_of (listed numbers.now) }
 {
-    numbers.get(numbers.len().saturating_sub(1)).unwrap_or(0)
+    numbers.as_slice().last().copied().unwrap_or(0)
 }
 
 // The numbers of the places and of the inner transitions read so far.
@@ -79,7 +81,6 @@ pub struct Noted {
 
 // The listed place in a piece.
 fn place_from(piece: Piece<'_>, shape: Shape, progress: &Noted) -> Result<Place, Fault>
-    requires { Located piece }
     ensures { plainly place_record_of result ≡ giving (place_says shape (listed progress.now.places) (listed progress.now.inners) piece.entry.offset piece.entry.rest.now) (place_at shape piece.entry.rest.now) }
 {
     let places = progress.places.len();
@@ -119,8 +120,7 @@ fn place_from(piece: Piece<'_>, shape: Shape, progress: &Noted) -> Result<Place,
 
 // The inner transition in a piece.
 fn inner_from(piece: Piece<'_>, shape: Shape, progress: &Noted) -> Result<Inner, Fault>
-    requires located { Located piece }
-    requires choices { shape.choices ≤ most_choices }
+    requires { shape.choices ≤ most_choices }
     ensures { plainly inner_of result ≡ giving (inner_says shape (listed progress.now.inners) piece.entry.offset piece.entry.rest.now) (inner_at shape piece.entry.rest.now) }
 {
     let inners = progress.inners.len();
@@ -179,21 +179,19 @@ pub struct WitnessReader<'a> {
 }
 
 // The kinds of pieces.
-const PLACE_KIND: usize = 1;
+const PLACE_KIND: u8 = 1;
 
-const INNER_KIND: usize = 2;
+const INNER_KIND: u8 = 2;
 
 // The kind of a piece, from its byte.
 fn kind_of<'a>(piece: Piece<'a>) -> Result<WitnessPiece<'a>, Fault>
-    requires { Located piece }
     ensures { plainly data_of result ≡ giving (kind_says (piece_of piece.entry)) (part_of (piece_of piece.entry)) }
 {
     piece.reaches(KIND_FROM + 1, FaultKind::WitnessLength)?;
-    let kind = piece.count_at(KIND_FROM, PLACE_KIND, INNER_KIND, FaultKind::WitnessCount)?;
-    if usize::from(kind) == PLACE_KIND {
-        Ok(WitnessPiece::Place(piece))
-    } else {
-        Ok(WitnessPiece::Transition(piece))
+    match byte_at(piece.rest, KIND_FROM) {
+        PLACE_KIND => Ok(WitnessPiece::Place(piece)),
+        INNER_KIND => Ok(WitnessPiece::Transition(piece)),
+        _ => Err(piece.fault(FaultKind::WitnessCount, KIND_FROM)),
     }
 }
 
@@ -239,13 +237,12 @@ impl Noted {
     pub(crate) fn read(
         &mut self,
         piece: WitnessPiece<'_>,
-        shape: Shape,
+        heading: &Heading,
     ) -> Result<WitnessRecord, Fault>
-        requires located { rest_from (within (data_of piece)).offset + length (within (data_of piece)).rest < 2 ^ 64 }
-        requires choices { shape.choices ≤ most_choices }
-        ensures answer { plainly record_of result ≡ giving (body_by shape (progress_of self.old) (data_of piece.entry)) (record_by shape (data_of piece.entry)) }
+        ensures answer { plainly record_of result ≡ giving (body_by (shape_of (heading_of heading.now)) (progress_of self.old) (data_of piece.entry)) (record_by (shape_of (heading_of heading.now)) (data_of piece.entry)) }
         ensures after { progress_of self.new ≡ (if is_ok result then further_by (progress_of self.old) (data_of piece.entry) else progress_of self.old) }
     {
+        let shape = heading.shape();
         match piece {
             WitnessPiece::Place(part) => {
                 let place = place_from(part, shape, self)?;
@@ -262,9 +259,8 @@ impl Noted {
 }
 
 // Tests the pieces of a witness, each before the next, and hands out the numbers of its records.
-pub(crate) fn pieces_test(bytes: &[u8], shape: Shape) -> Result<Noted, Fault>
-    requires { shape.choices ≤ most_choices }
-    ensures { plainly progress_of result ≡ giving (pieces_say shape bytes.now) (numbers_in (witness_at shape bytes.now)) }
+pub(crate) fn pieces_test(bytes: &[u8], heading: &Heading) -> Result<Noted, Fault>
+    ensures { plainly progress_of result ≡ giving (pieces_say (shape_of (heading_of heading.now)) bytes.now) (numbers_in (witness_at (shape_of (heading_of heading.now)) bytes.now)) }
 {
     let mut reader = WitnessReader {
         bytes,
@@ -272,7 +268,7 @@ pub(crate) fn pieces_test(bytes: &[u8], shape: Shape) -> Result<Noted, Fault>
     };
     let mut noted = Noted::new();
     while let Some(piece) = reader.next()? {
-        noted.read(piece, shape)?;
+        noted.read(piece, heading)?;
     }
     Ok(noted)
 }

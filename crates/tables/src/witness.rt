@@ -1,17 +1,16 @@
 // Witnesses.
 ghost use Rattle.formats.specs.Tables.{table_at, table_says};
-ghost use Rattle.records.specs.Held.{held};
-ghost use Rattle.records.specs.Records.{heading_of, shape_of, transition_of};
-ghost use Rattle.std.specs.Prelude.{◌≡◌, map, Ok};
+ghost use Rattle.sequences.specs.TableGiven.{shape_in, transitions_in};
+ghost use Rattle.std.specs.Prelude.{◌≡◌, Ok};
 ghost use Rattle.tables.specs.Short.{registers_short, witness_by, witness_answer};
 
 use crate::blank;
 use crate::table::load;
 use records::limits::{MOST_INNERS, MOST_PLACES, MOST_TRANSITIONS};
-use records::{Heading, Inner, Place, Register, Transition};
+use records::{Inner, Place, Register};
 use replies::WitnessRead;
 use rows::Fault;
-use sequences::read_witness;
+use sequences::{TableView, read_witness};
 
 // The short form of what two registers hold.
 fn short(places: &Register<'_, Place>, inners: &Register<'_, Inner>) -> WitnessRead
@@ -24,18 +23,14 @@ fn short(places: &Register<'_, Place>, inners: &Register<'_, Inner>) -> WitnessR
 }
 
 // What a witness for a table holds in short, or why the bytes are none.
-fn for_table(
-    bytes: &[u8],
-    heading: &Heading,
-    table: &Register<'_, Transition>,
-) -> Result<WitnessRead, Fault>
-    ensures { result ≡ witness_by (map transition_of (held table.now)) (shape_of (heading_of heading.now)) bytes.now }
+fn for_table(bytes: &[u8], table: TableView<'_>) -> Result<WitnessRead, Fault>
+    ensures { result ≡ witness_by (transitions_in table.entry) (shape_in table.entry) bytes.now }
 {
     let mut place_memory = [blank::place(); MOST_PLACES];
     let mut inner_memory = [blank::inner(); MOST_INNERS];
     let mut places = Register::new(&mut place_memory);
     let mut inners = Register::new(&mut inner_memory);
-    read_witness(bytes, heading, table, &mut places, &mut inners)?;
+    read_witness(bytes, table, &mut places, &mut inners)?;
     Ok(short(&places, &inners))
 }
 
@@ -47,5 +42,11 @@ pub(crate) fn witness_summary(table: &[u8], bytes: &[u8]) -> Result<WitnessRead,
     let mut memory = [blank::transition(); MOST_TRANSITIONS];
     let mut transitions = Register::new(&mut memory);
     let heading = load(table, &mut transitions)?;
-    for_table(bytes, &heading, &transitions)
+    for_table(
+        bytes,
+        TableView {
+            heading: &heading,
+            transitions: transitions.as_slice(),
+        },
+    )
 }

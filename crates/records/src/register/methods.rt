@@ -47,6 +47,7 @@ impl<'a, T: Copy> Register<'a, T> {
     }
 
     // Puts a record at the end, if there is room; else the register stays as it is.
+    // A `bool`, as a set's `insert` answers: an empty error would say no more.
     pub fn push(&mut self, item: T) -> bool
         ensures took { result ≡ nat_lt (length (held self.old)) (room self.old) }
         ensures held { held self.new ≡ (if result then held self.old ++ (item ∷ []) else held self.old) }
@@ -69,6 +70,8 @@ impl<'a, T: Copy> Register<'a, T> {
     }
 
     // Puts a record in the place of another; where none stands there, the register stays as it is.
+    // A `bool`, as for `push`.
+    #[tactic(auto, using(crate::proofs::Fronts::taken_set))]
     pub fn replace(&mut self, i: usize, item: T) -> bool
         ensures took { result ≡ nat_lt i (length (held self.old)) }
         ensures held { held self.new ≡ slice_set (held self.old) i item }

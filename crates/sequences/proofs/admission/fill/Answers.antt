@@ -1,4 +1,4 @@
-use Rattle.std.proofs.Common.{◌≡◌, ℕ, ◌^◌, ◌<◌, ◌≤◌, List, map, length, drop, Ok, Option, sym, refl, ap, ◌∙◌, subst, rules}
+use Rattle.std.proofs.Common.{◌≡◌, ℕ, ◌≤◌, List, map, drop, Ok, Option, sym, refl, ap, ◌∙◌, subst}
 use Rattle.std.specs.Option.{option_map}
 use Rattle.rows.proofs.Chains.{never}
 use Rattle.sequences.specs.declared.witness.WitnessPiece.{WitnessPiece}
@@ -7,11 +7,11 @@ use Rattle.sequences.specs.Handed.{ReaderData, reader_of, progress_of, data_of, 
 use Rattle.records.specs.Held.{held, behind}
 use Rattle.records.specs.Limits.{most_places, most_inners}
 use Rattle.formats.specs.Pieces.{pieces_from}
-use Rattle.records.specs.Records.{PlaceData, InnerData, place_record_of, inner_of}
+use Rattle.records.specs.Records.{heading_of, shape_of, PlaceData, InnerData, place_record_of, inner_of}
 use Rattle.formats.specs.Walks.{PieceData}
 use Rattle.formats.specs.Witnesses.{Progress, RecordData, body_by, record_by, further_by, places_of, inners_of, pieces_of, witness_at}
 use Rattle.sequences.proofs.Filling.{Filled, filled_begins, filled_done, places_after, inners_after, roomy}
-use Rattle.sequences.proofs.HandedSteps.{Given, some_handed, none_handed, fault_handed, part_located, comes_on}
+use Rattle.sequences.proofs.HandedSteps.{Given, some_handed, none_handed, fault_handed, comes_on}
 use Rattle.formats.proofs.PieceTests.{given_ok, given_err}
 use Rattle.formats.proofs.WalkSteps.{pieces_all}
 use Rattle.sequences.proofs.WitnessWalks.{Walking, ahead, walking_begins, walking_lost, walking_passes, walking_more, next_places, next_inners}
@@ -22,11 +22,11 @@ pub loop-piece-init : goal.loop-piece-init
 unfolding pieces_of
 loop-piece-init c =
     let e = sym c.new-noted.ensures in (
-      subst (Walking c.args.shape c.args.bytes.now (record { bytes = c.args.bytes.now; at = pieces_from })) e (walking_begins c.args.shape c.args.bytes.now),
-      subst (λ (s : Progress). Filled place_record_of (witness_at c.args.shape c.args.bytes.now).places (witness_at c.args.shape c.args.bytes.now).places s.places c.args.places.now c.args.places.now) e
-          (filled_begins place_record_of (witness_at c.args.shape c.args.bytes.now).places c.args.places.now c.requires.no_places),
-      subst (λ (s : Progress). Filled inner_of (witness_at c.args.shape c.args.bytes.now).inners (witness_at c.args.shape c.args.bytes.now).inners s.inners c.args.inners.now c.args.inners.now) e
-          (filled_begins inner_of (witness_at c.args.shape c.args.bytes.now).inners c.args.inners.now c.requires.no_inners),
+      subst (Walking (shape_of (heading_of c.args.heading.now)) c.args.bytes.now (record { bytes = c.args.bytes.now; at = pieces_from })) e (walking_begins (shape_of (heading_of c.args.heading.now)) c.args.bytes.now),
+      subst (λ (s : Progress). Filled place_record_of (witness_at (shape_of (heading_of c.args.heading.now)) c.args.bytes.now).places (witness_at (shape_of (heading_of c.args.heading.now)) c.args.bytes.now).places s.places c.args.places.now c.args.places.now) e
+          (filled_begins place_record_of (witness_at (shape_of (heading_of c.args.heading.now)) c.args.bytes.now).places c.args.places.now c.requires.no_places),
+      subst (λ (s : Progress). Filled inner_of (witness_at (shape_of (heading_of c.args.heading.now)) c.args.bytes.now).inners (witness_at (shape_of (heading_of c.args.heading.now)) c.args.bytes.now).inners s.inners c.args.inners.now c.args.inners.now) e
+          (filled_begins inner_of (witness_at (shape_of (heading_of c.args.heading.now)) c.args.bytes.now).inners c.args.inners.now c.requires.no_inners),
     )
 
 module _ (c : In-Some) where
@@ -35,23 +35,13 @@ module _ (c : In-Some) where
       some_handed (reader_of c.loop-piece.reader) (data_of c.in-Some.piece)
       (ap (λ (o : Option WitnessPiece). Ok (option_map data_of o)) (sym c.in-Some.is) ∙ c.in_ok-piece.ensures.handed)
 
-  short : length c.loop-piece.reader.bytes.now < 2 ^ 64
-  short =
-      let h : length c.args.bytes.now < 2 ^ 64 = search rules in
-      subst (λ (xs : List ℕ). length xs < 2 ^ 64) (sym c.loop-piece.invariant.0.same) h
-
-  passes : Ok tt ≡ body_by c.args.shape (progress_of c.loop-piece.noted) (data_of c.in-Some.piece)
-  passes = walking_passes c.args.shape c.args.bytes.now (reader_of c.loop-piece.reader) (progress_of c.loop-piece.noted) c.loop-piece.invariant.0 (data_of c.in-Some.piece) handed c.requires.passed
+  passes : Ok tt ≡ body_by (shape_of (heading_of c.args.heading.now)) (progress_of c.loop-piece.noted) (data_of c.in-Some.piece)
+  passes = walking_passes (shape_of (heading_of c.args.heading.now)) c.args.bytes.now (reader_of c.loop-piece.reader) (progress_of c.loop-piece.noted) c.loop-piece.invariant.0 (data_of c.in-Some.piece) handed c.requires.passed
 
 pub returns-in_err-piece : goal.returns-in_err-piece
 returns-in_err-piece c =
     let h = fault_handed (reader_of c.loop-piece.reader) _ c.in_err-piece.ensures.handed in
-    never _ (walking_lost c.args.shape c.args.bytes.now (reader_of c.loop-piece.reader) (progress_of c.loop-piece.noted) c.loop-piece.invariant.0 _ h.0 h.1 ∙ sym c.requires.passed)
-
-pub read-requires : goal.read-requires
-read-requires c =
-    let d = (goal.at.read-requires c).In-Some in
-    record { located = part_located (reader_of c.loop-piece.reader) (data_of c.in-Some.piece) (handed d) (short d); choices = c.requires.choices }
+    never _ (walking_lost (shape_of (heading_of c.args.heading.now)) c.args.bytes.now (reader_of c.loop-piece.reader) (progress_of c.loop-piece.noted) c.loop-piece.invariant.0 _ h.0 h.1 ∙ sym c.requires.passed)
 
 pub returns-in_err-found : goal.returns-in_err-found
 returns-in_err-found c =
@@ -59,7 +49,7 @@ returns-in_err-found c =
     never _ (given_err _ _ _ c.in_err-found.ensures.answer ∙ sym (passes d))
 
 -- what was read
-read : (c : In_ok-found) → record_of c.in_ok-found.found ≡ record_by c.args.shape (data_of c.in-Some.piece)
+read : (c : In_ok-found) → record_of c.in_ok-found.found ≡ record_by (shape_of (heading_of c.args.heading.now)) (data_of c.in-Some.piece)
 read c = (given_ok _ _ _ c.in_ok-found.ensures.answer).1
 
 pub keep-requires : goal.keep-requires
@@ -67,7 +57,7 @@ keep-requires c =
     let d = (goal.at.keep-requires c).In-Some in
     let f = (goal.at.keep-requires c).In_ok-found in
     subst (λ (x : RecordData). Roomy x c.loop-piece.places c.loop-piece.inners) (sym (read f))
-    (roomy c.args.shape (progress_of c.loop-piece.noted) c.loop-piece.places c.loop-piece.inners (data_of c.in-Some.piece) (passes d) c.loop-piece.invariant.1.many c.loop-piece.invariant.2.many
+    (roomy (shape_of (heading_of c.args.heading.now)) (progress_of c.loop-piece.noted) c.loop-piece.places c.loop-piece.inners (data_of c.in-Some.piece) (passes d) c.loop-piece.invariant.1.many c.loop-piece.invariant.2.many
     (subst (λ (n : ℕ). most_places ≤ n) (sym c.loop-piece.invariant.1.room_is) c.requires.places_room)
     (subst (λ (n : ℕ). most_inners ≤ n) (sym c.loop-piece.invariant.2.room_is) c.requires.inners_room))
 
@@ -75,7 +65,7 @@ pub loop-piece-preserved : goal.loop-piece-preserved
 loop-piece-preserved c =
     let d = (goal.at.loop-piece-preserved c).In-Some in
     let f = (goal.at.loop-piece-preserved c).In_ok-found in
-    let shape = c.args.shape in
+    let shape = (shape_of (heading_of c.args.heading.now)) in
     let bytes = c.args.bytes.now in
     let r = reader_of c.loop-piece.reader in
     let s = progress_of c.loop-piece.noted in
@@ -114,8 +104,8 @@ pub returns : goal.returns
 returns c =
     let h = none_handed (reader_of c.loop-piece.reader) (ap (λ (o : Option WitnessPiece). Ok (option_map data_of o)) (sym c.in_default.is) ∙ c.in_ok-piece.ensures.handed) in
     let e = pieces_all c.loop-piece.reader.bytes.now c.loop-piece.reader.at h in
-    let p = subst (λ (ps : List PieceData). Filled place_record_of (witness_at c.args.shape c.args.bytes.now).places (places_of c.args.shape ps) (progress_of c.loop-piece.noted).places c.args.places.now c.loop-piece.places) e c.loop-piece.invariant.1 in
-    let i = subst (λ (ps : List PieceData). Filled inner_of (witness_at c.args.shape c.args.bytes.now).inners (inners_of c.args.shape ps) (progress_of c.loop-piece.noted).inners c.args.inners.now c.loop-piece.inners) e c.loop-piece.invariant.2 in
+    let p = subst (λ (ps : List PieceData). Filled place_record_of (witness_at (shape_of (heading_of c.args.heading.now)) c.args.bytes.now).places (places_of (shape_of (heading_of c.args.heading.now)) ps) (progress_of c.loop-piece.noted).places c.args.places.now c.loop-piece.places) e c.loop-piece.invariant.1 in
+    let i = subst (λ (ps : List PieceData). Filled inner_of (witness_at (shape_of (heading_of c.args.heading.now)) c.args.bytes.now).inners (inners_of (shape_of (heading_of c.args.heading.now)) ps) (progress_of c.loop-piece.noted).inners c.args.inners.now c.loop-piece.inners) e c.loop-piece.invariant.2 in
     record {
       passed = refl;
       places = filled_done place_record_of _ c.args.places.now _ _ p;

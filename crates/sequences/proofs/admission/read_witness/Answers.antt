@@ -1,17 +1,17 @@
 -- The laws of the format, for the bytes that are read.
-use Rattle.std.proofs.Common.{map, length, sym, subst}
+use Rattle.std.proofs.Common.{length, sym, subst}
 use Rattle.formats.specs.Placed.{Placed}
 use Rattle.formats.proofs.WitnessPlaces.{placed_admit}
 use Rattle.formats.proofs.WitnessesWritten.{witness_exactly}
-use Rattle.records.specs.Held.{held, room}
-use Rattle.records.specs.Records.{heading_of, shape_of, transition_of}
+use Rattle.records.specs.Held.{room}
+use Rattle.sequences.specs.TableGiven.{shape_in, transitions_in}
 use Rattle.sequences.proofs.admission.read_witness.Goals as goal
 
 pub returns : goal.returns
 returns c =
-    let transitions = map transition_of (held c.args.table.now) in
-    let shape = shape_of (heading_of c.args.heading.now) in
-    let limits = c.args.heading.now.limits in
+    let transitions = transitions_in c.args.table in
+    let shape = shape_in c.args.table in
+    let limits = c.args.table.heading.now.limits in
     record {
       answer = c.read_into.ensures.answer;
       memory = c.read_into.ensures.memory;

@@ -1,17 +1,16 @@
 -- The laws of the format, for the bytes that are tested.
-use Rattle.std.proofs.Common.{map, length, sym, subst}
+use Rattle.std.proofs.Common.{length, sym, subst}
 use Rattle.formats.specs.Placed.{Placed}
 use Rattle.formats.proofs.WitnessPlaces.{placed_witness}
 use Rattle.formats.proofs.WitnessesWritten.{witness_exactly}
-use Rattle.records.specs.Held.{held}
-use Rattle.records.specs.Records.{heading_of, shape_of, transition_of}
+use Rattle.sequences.specs.TableGiven.{shape_in, transitions_in}
 use Rattle.sequences.proofs.admission.test_witness.Goals as goal
 
 pub returns : goal.returns
 returns c =
-    let transitions = map transition_of (held c.args.table.now) in
-    let shape = shape_of (heading_of c.args.heading.now) in
-    let limits = c.args.heading.now.limits in
+    let transitions = transitions_in c.args.table in
+    let shape = shape_in c.args.table in
+    let limits = c.args.table.heading.now.limits in
     record {
       answer = c.tested.ensures;
       exactly = witness_exactly transitions shape (record { values = limits.0; choices = limits.1 }) c.args.bytes.now c.bytes_fit.ensures;

@@ -1,12 +1,11 @@
-use Rattle.std.proofs.Common.{◌≡◌, ℕ, ◌^◌, ◌<◌, List, map, length, Ok, Option, sym, refl, ap, ◌∙◌, subst, rules}
+use Rattle.std.proofs.Common.{◌≡◌, Ok, Option, sym, refl, ap, ◌∙◌, subst}
 use Rattle.std.proofs.lemmas.Result.{err_from_is_err_and}
 use Rattle.std.specs.Option.{option_map}
 use Rattle.rows.proofs.Chains.{stops, goes, never}
 use Rattle.sequences.specs.declared.witness.WitnessPiece.{WitnessPiece}
 use Rattle.sequences.specs.Handed.{ReaderData, reader_of, progress_of, data_of}
-use Rattle.records.specs.Held.{held}
-use Rattle.records.specs.Records.{transition_of}
 use Rattle.formats.specs.Witnesses.{begun, body_by, further_by, named_in, pieces_of, references_say}
+use Rattle.sequences.specs.TableGiven.{shape_in, transitions_in}
 use Rattle.sequences.proofs.HandedSteps.{Given, some_handed, none_handed, fault_handed, comes_on}
 use Rattle.formats.proofs.WalkSteps.{pieces_all}
 use Rattle.sequences.proofs.WitnessWalks.{Walking, ahead, walking_begins, walking_lost, walking_passes, walking_more, next_references, passed_reached}
@@ -15,7 +14,7 @@ use Rattle.sequences.proofs.references.references_test.Goals.{In-Some}
 
 pub loop-piece-init : goal.loop-piece-init
 unfolding pieces_of
-loop-piece-init c = ((begun, walking_begins c.args.shape c.args.bytes.now), refl)
+loop-piece-init c = ((begun, walking_begins (shape_in c.args.table) c.args.bytes.now), refl)
 
 module _ (c : In-Some) where
   handed : Given (reader_of c.loop-piece.reader) (data_of c.in-Some.piece)
@@ -23,44 +22,39 @@ module _ (c : In-Some) where
       some_handed (reader_of c.loop-piece.reader) (data_of c.in-Some.piece)
       (ap (λ (o : Option WitnessPiece). Ok (option_map data_of o)) (sym c.in-Some.is) ∙ c.in_ok-piece.ensures.handed)
 
-  short : length c.loop-piece.reader.bytes.now < 2 ^ 64
-  short =
-      let h : length c.args.bytes.now < 2 ^ 64 = search rules in
-      subst (λ (xs : List ℕ). length xs < 2 ^ 64) (sym c.loop-piece.invariant.0.1.same) h
-
-  passes : Ok tt ≡ body_by c.args.shape c.loop-piece.invariant.0.0 (data_of c.in-Some.piece)
-  passes = walking_passes c.args.shape c.args.bytes.now (reader_of c.loop-piece.reader) c.loop-piece.invariant.0.0 c.loop-piece.invariant.0.1 (data_of c.in-Some.piece) handed c.requires
+  passes : Ok tt ≡ body_by (shape_in c.args.table) c.loop-piece.invariant.0.0 (data_of c.in-Some.piece)
+  passes = walking_passes (shape_in c.args.table) c.args.bytes.now (reader_of c.loop-piece.reader) c.loop-piece.invariant.0.0 c.loop-piece.invariant.0.1 (data_of c.in-Some.piece) handed c.requires
 
 pub returns-in_err-piece : goal.returns-in_err-piece
 returns-in_err-piece c =
     let h = fault_handed (reader_of c.loop-piece.reader) _ c.in_err-piece.ensures.handed in
-    never _ (walking_lost c.args.shape c.args.bytes.now (reader_of c.loop-piece.reader) c.loop-piece.invariant.0.0 c.loop-piece.invariant.0.1 _ h.0 h.1 ∙ sym c.requires)
+    never _ (walking_lost (shape_in c.args.table) c.args.bytes.now (reader_of c.loop-piece.reader) c.loop-piece.invariant.0.0 c.loop-piece.invariant.0.1 _ h.0 h.1 ∙ sym c.requires)
 
 pub reference_test-requires : goal.reference_test-requires
 reference_test-requires c =
     let d = (goal.at.reference_test-requires c).In-Some in
-    passed_reached c.args.shape c.loop-piece.invariant.0.0 (reader_of c.loop-piece.reader) (data_of c.in-Some.piece) (handed d) (short d) (passes d)
+    passed_reached (shape_in c.args.table) c.loop-piece.invariant.0.0 (reader_of c.loop-piece.reader) (data_of c.in-Some.piece) (handed d) (passes d)
 
 pub returns-in_err-reference_test : goal.returns-in_err-reference_test
 returns-in_err-reference_test c =
     let p = err_from_is_err_and c.from_residual-in_err-reference_test.result c.from_residual-in_err-reference_test.ensures.1 in
     let d = (goal.at.returns-in_err-reference_test c).In-Some in
-    let n = named_in (map transition_of (held c.args.table.now)) (progress_of c.args.noted.now) in
+    let n = named_in (transitions_in c.args.table) (progress_of c.args.noted.now) in
     rw (p.1, p.2)
     (stops _ _ _ c.in_err-reference_test.ensures
-    ∙ sym (next_references c.args.shape c.args.bytes.now (reader_of c.loop-piece.reader) c.loop-piece.invariant.0.0 c.loop-piece.invariant.0.1 (data_of c.in-Some.piece) (handed d) n)
+    ∙ sym (next_references (shape_in c.args.table) c.args.bytes.now (reader_of c.loop-piece.reader) c.loop-piece.invariant.0.0 c.loop-piece.invariant.0.1 (data_of c.in-Some.piece) (handed d) n)
     ∙ c.loop-piece.invariant.1)
 
 pub loop-piece-preserved : goal.loop-piece-preserved
 loop-piece-preserved c =
     let d = (goal.at.loop-piece-preserved c).In-Some in
-    let n = named_in (map transition_of (held c.args.table.now)) (progress_of c.args.noted.now) in
+    let n = named_in (transitions_in c.args.table) (progress_of c.args.noted.now) in
     let r = reader_of c.loop-piece.reader in
-    let w = walking_more c.args.shape c.args.bytes.now r c.loop-piece.invariant.0.0 c.loop-piece.invariant.0.1 (data_of c.in-Some.piece) (handed d) (passes d) in (
-      (further_by c.loop-piece.invariant.0.0 (data_of c.in-Some.piece), subst (λ (q : ReaderData). Walking c.args.shape c.args.bytes.now q (further_by c.loop-piece.invariant.0.0 (data_of c.in-Some.piece))) (sym c.next.ensures.stands) w),
-      ap (λ (q : ReaderData). references_say c.args.shape n (ahead q)) c.next.ensures.stands
+    let w = walking_more (shape_in c.args.table) c.args.bytes.now r c.loop-piece.invariant.0.0 c.loop-piece.invariant.0.1 (data_of c.in-Some.piece) (handed d) (passes d) in (
+      (further_by c.loop-piece.invariant.0.0 (data_of c.in-Some.piece), subst (λ (q : ReaderData). Walking (shape_in c.args.table) c.args.bytes.now q (further_by c.loop-piece.invariant.0.0 (data_of c.in-Some.piece))) (sym c.next.ensures.stands) w),
+      ap (λ (q : ReaderData). references_say (shape_in c.args.table) n (ahead q)) c.next.ensures.stands
           ∙ goes _ _ _ c.in_ok-reference_test.ensures refl
-          ∙ sym (next_references c.args.shape c.args.bytes.now r c.loop-piece.invariant.0.0 c.loop-piece.invariant.0.1 (data_of c.in-Some.piece) (handed d) n)
+          ∙ sym (next_references (shape_in c.args.table) c.args.bytes.now r c.loop-piece.invariant.0.0 c.loop-piece.invariant.0.1 (data_of c.in-Some.piece) (handed d) n)
           ∙ c.loop-piece.invariant.1,
     )
 
@@ -71,6 +65,6 @@ loop-piece-smaller c =
 
 pub returns : goal.returns
 returns c =
-    let n = named_in (map transition_of (held c.args.table.now)) (progress_of c.args.noted.now) in
+    let n = named_in (transitions_in c.args.table) (progress_of c.args.noted.now) in
     let h = none_handed (reader_of c.loop-piece.reader) (ap (λ (o : Option WitnessPiece). Ok (option_map data_of o)) (sym c.in_default.is) ∙ c.in_ok-piece.ensures.handed) in
-    ap (references_say c.args.shape n) (sym (pieces_all c.loop-piece.reader.bytes.now c.loop-piece.reader.at h)) ∙ c.loop-piece.invariant.1
+    ap (references_say (shape_in c.args.table) n) (sym (pieces_all c.loop-piece.reader.bytes.now c.loop-piece.reader.at h)) ∙ c.loop-piece.invariant.1

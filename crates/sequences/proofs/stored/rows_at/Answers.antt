@@ -16,7 +16,7 @@ overflow_mul-stride g c =
     let s = c.stride-stride.ensures in
     let w = stride_within c.stride-stride.result c.loop-i.i c.args.count c.loop-i-test.true in
     let e = ap (λ (k : ℕ). k * c.args.count) s in
-    let p = c.requires.located in
+    let p = c.requires.within in
     omega (arith, w, e, p)
 
 pub overflow_add-from : goal.overflow_add-from
@@ -24,7 +24,7 @@ overflow_add-from g c =
     let s = c.stride-stride.ensures in
     let w = stride_within c.stride-stride.result c.loop-i.i c.args.count c.loop-i-test.true in
     let e = ap (λ (k : ℕ). k * c.args.count) s in
-    let p = c.requires.located in
+    let p = c.requires.within in
     omega (arith, w, e, p)
 
 pub row_at-requires : goal.row_at-requires
@@ -32,7 +32,7 @@ row_at-requires g c =
     let s = c.stride-stride.ensures in
     let w = stride_within c.stride-stride.result c.loop-i.i c.args.count c.loop-i-test.true in
     let e = ap (λ (k : ℕ). k * c.args.count) s in
-    let p = c.requires.located in
+    let p = c.requires.within in
     omega (arith, w, e, p, s)
 
 pub loop-i-init : goal.loop-i-init

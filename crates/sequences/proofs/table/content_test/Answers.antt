@@ -1,15 +1,15 @@
-use Rattle.std.proofs.Common.{◌≡◌, ℕ, ◌≤◌, length, Ok, sym, ap, ◌∙◌, subst}
+use Rattle.std.proofs.Common.{◌≡◌, ℕ, Ok, ap, ◌∙◌}
 use Rattle.std.proofs.lemmas.Result.{err_from_is_err_and}
 use Rattle.rows.proofs.Chains.{stops, goes}
 use Rattle.records.specs.declared.shape.Shape.{Shape}
-use Rattle.records.specs.Limits.{most_values, most_transitions}
+use Rattle.records.specs.Limits.{most_transitions}
 use Rattle.formats.specs.Pieces.{pieces_from, piece_end}
 use Rattle.records.specs.Records.{heading_of, shape_of}
 use Rattle.formats.specs.Tables.{heading_shape, heading_rest, heading_at, heading_says, transitions_say, content_says, table_at}
-use Rattle.formats.proofs.HeadingLimits.{heading_values}
 use Rattle.formats.proofs.PieceTests.{given, given_fault, given_ok, given_err}
 use Rattle.sequences.proofs.table.content_test.Goals as goal
-use Rattle.sequences.proofs.table.content_test.Goals.{After-shape}
+use Rattle.sequences.specs.TransitionsHanded.{reading_of, coming_say}
+use Rattle.sequences.proofs.table.content_test.Goals.{After-new}
 
 pub returns-in_err-piece : goal.returns-in_err-piece
 unfolding content_says
@@ -25,8 +25,8 @@ returns-in_err-heading c =
     let h = given_err _ _ _ c.in_err-heading.ensures ∙ ap (λ (o : ℕ). heading_says o c.in_ok-piece.piece.rest.now) i.1.offset ∙ ap (heading_says pieces_from) i.1.rest in
     rw (p.1, p.2) (given_fault _ _ _ (goes _ _ _ i.0 (stops _ _ _ h)))
 
--- the heading that was read, and its shape
-module _ (c : After-shape) where
+-- the heading that was read, and the test of the transitions, in the words of the definition
+module _ (c : After-new) where
   tested : Ok tt ≡ heading_says pieces_from (heading_rest c.args.bytes.now)
   tested =
       let i = c.in_ok-piece.ensures in
@@ -35,31 +35,18 @@ module _ (c : After-shape) where
   read : heading_of c.in_ok-heading.heading ≡ heading_at (heading_rest c.args.bytes.now)
   read = (given_ok _ _ _ c.in_ok-heading.ensures).1 ∙ ap heading_at c.in_ok-piece.ensures.1.rest
 
-  shaped : c.shape.result ≡ heading_shape (heading_rest c.args.bytes.now)
-  shaped = c.shape.ensures ∙ ap shape_of read
-
-pub transitions_test-requires : goal.transitions_test-requires
-transitions_test-requires c =
-    record {
-      within = subst (λ (n : ℕ). n ≤ length c.args.bytes.now) (sym c.transitions_from.ensures) c.in_ok-piece.ensures.1.ends;
-      values = subst (λ (z : Shape). z.values ≤ most_values) (sym (shaped c)) (heading_values pieces_from (heading_rest c.args.bytes.now) (sym (tested c))).1;
-    }
-
--- the test of the transitions, in the words of the definition
-tests : (c : After-shape) → transitions_say c.shape.result c.args.bytes.now most_transitions 0 c.transitions_from.result ≡ transitions_say (heading_shape (heading_rest c.args.bytes.now)) c.args.bytes.now most_transitions 0 (piece_end c.args.bytes.now pieces_from)
-tests c =
-    ap (λ (z : Shape). transitions_say z c.args.bytes.now most_transitions 0 c.transitions_from.result) (shaped c)
-    ∙ ap (transitions_say (heading_shape (heading_rest c.args.bytes.now)) c.args.bytes.now most_transitions 0) c.transitions_from.ensures
+  tests : coming_say (reading_of c.new.result) ≡ transitions_say (heading_shape (heading_rest c.args.bytes.now)) c.args.bytes.now most_transitions 0 (piece_end c.args.bytes.now pieces_from)
+  tests = ap coming_say c.new.ensures ∙ ap (λ (z : Shape). transitions_say z c.args.bytes.now most_transitions 0 (piece_end c.args.bytes.now pieces_from)) (ap shape_of read)
 
 pub returns-in_err-transitions_test : goal.returns-in_err-transitions_test
 unfolding content_says
 returns-in_err-transitions_test c =
     let p = err_from_is_err_and c.from_residual-in_err-transitions_test.result c.from_residual-in_err-transitions_test.ensures.1 in
-    let d = (goal.at.returns-in_err-transitions_test c).After-shape in
+    let d = (goal.at.returns-in_err-transitions_test c).After-new in
     rw (p.1, p.2) (given_fault _ _ _ (goes _ _ _ c.in_ok-piece.ensures.0 (goes _ _ _ (tested d) (c.in_err-transitions_test.ensures ∙ tests d))))
 
 pub returns : goal.returns
 unfolding content_says table_at
 returns c =
-    let d = (goal.at.returns c).After-shape in
+    let d = (goal.at.returns c).After-new in
     given _ _ _ (goes _ _ _ c.in_ok-piece.ensures.0 (goes _ _ _ (tested d) (c.in_ok-transitions_test.ensures ∙ tests d))) (read d)

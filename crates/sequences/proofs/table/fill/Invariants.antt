@@ -1,18 +1,16 @@
 use Rattle.std.proofs.Common.{◌≡◌, ◌+◌, ◌-◌, ◌≤◌, ◌++◌, map, length, drop, Ok}
 use Rattle.records.specs.Held.{held, behind, room}
-use Rattle.records.specs.Limits.{most_transitions}
 use Rattle.records.specs.Records.{transition_of}
-use Rattle.formats.specs.Tables.{transitions_at, transitions_say}
+use Rattle.sequences.specs.TransitionsHanded.{reading_of, coming, coming_say}
 use Rattle.sequences.proofs.table.fill.Given as goal
 
-abbrev pub invariant-loop-at : goal.invariant-loop-at
-invariant-loop-at l =
-    (l.at ≤ length l.bytes)
-    × (Ok tt ≡ transitions_say l.shape l.bytes l.room l.last l.at)
-    × (map transition_of (held l.register) ++ transitions_at l.shape l.bytes l.room l.at ≡ transitions_at l.shape l.bytes most_transitions l.from)
-    × (length (held l.register) + l.room ≡ most_transitions)
-    × (behind l.register ≡ drop (length (held l.register)) (behind l.initial.register))
-    × (room l.register ≡ room l.initial.register)
+abbrev pub invariant-loop-transition : goal.invariant-loop-transition
+invariant-loop-transition l = record {
+  passed : Ok tt ≡ coming_say (reading_of l.reader);
+  items : map transition_of (held l.register) ++ coming (reading_of l.reader) ≡ coming (reading_of l.initial.reader);
+  fits : length (held l.register) + l.reader.room ≤ room l.register;
+  behind_is : behind l.register ≡ drop (length (held l.register)) (behind l.initial.register);
+}
 
-abbrev pub decreases-loop-at : goal.decreases-loop-at
-decreases-loop-at l = length l.bytes - l.at
+abbrev pub decreases-loop-transition : goal.decreases-loop-transition
+decreases-loop-transition l = length l.reader.bytes.now - l.reader.at

@@ -1,4 +1,4 @@
-use Rattle.std.proofs.Common.{◌≡◌, ℕ, ◌+◌, ◌*◌, ◌^◌, ◌<◌, ◌≤◌, List, [], ◌∷◌, ◌++◌, map, length, sym, refl, ap, ◌∙◌, arith}
+use Rattle.std.proofs.Common.{◌≡◌, ℕ, ◌+◌, ◌*◌, ◌<◌, ◌≤◌, List, [], ◌∷◌, ◌++◌, map, length, sym, refl, ap, ◌∙◌, arith}
 use Rattle.std.proofs.lemmas.List.FromFn.{length-map-range_with_len, map-range_with_len_more}
 use Rattle.std.proofs.lemmas.List.{length-map, map_push}
 use Rattle.std.proofs.lemmas.Result.{err_from_is_err_and}
@@ -6,7 +6,6 @@ use Rattle.rows.specs.declared.fault.FaultKind.TheVariants.{WitnessWritten}
 use Rattle.rows.specs.Bytes.{word_at}
 use Rattle.records.specs.declared.shape.Shape.{Shape}
 use Rattle.records.specs.Bounded.{listed}
-use Rattle.formats.specs.Pieces.{rest_from}
 use Rattle.records.specs.Records.{EntryData, entry_of}
 use Rattle.formats.specs.StoredRows.{row_at, row_says}
 use Rattle.records.specs.Slots.{over_values, stride}
@@ -26,10 +25,10 @@ module _ (c : In-loop-i) where
   placed : c.args.from + (2 + c.stride-stride.result) * c.loop-i.i ≡ entry_from c.args.shape c.args.from c.loop-i.i
   placed = ap (λ (k : ℕ). c.args.from + k * c.loop-i.i) strided
 
-  before : rest_from c.args.piece.offset + (c.args.from + (2 + c.stride-stride.result) * c.loop-i.i) + entry_stride c.args.shape < 2 ^ 64
+  before : c.args.from + (2 + c.stride-stride.result) * c.loop-i.i + entry_stride c.args.shape ≤ length c.args.piece.rest.now
   before =
       let w = stride_within (entry_stride c.args.shape) c.loop-i.i c.args.count c.loop-i-test.true in
-      let p = c.requires.located in
+      let p = c.requires.within in
       omega (arith, w, p, placed)
 
 pub overflow_add-at : goal.overflow_add-at

@@ -1,8 +1,8 @@
-use Rattle.std.proofs.Common.{◌≡◌, map, Err, sym, ap, ◌∙◌}
+use Rattle.std.proofs.Common.{◌≡◌, Err, sym, ap, ◌∙◌}
 use Rattle.std.proofs.lemmas.Result.{err_from_is_err_and}
-use Rattle.records.specs.Held.{held, room}
+use Rattle.records.specs.Held.{room}
 use Rattle.records.specs.Limits.{most_places, most_inners}
-use Rattle.records.specs.Records.{heading_of, shape_of, transition_of}
+use Rattle.sequences.specs.TableGiven.{shape_in, transitions_in}
 use Rattle.formats.specs.Witnesses.{witness_at, witness_says}
 use Rattle.formats.proofs.PieceTests.{given, given_fault}
 use Rattle.tables.proofs.Rooms.{enough, admit_roomy}
@@ -11,10 +11,10 @@ use Rattle.tables.proofs.witness.for_table.Goals.{After-read_witness}
 use Rattle.tables.proofs.witness.for_table.Goals as goal
 
 -- the registers have room, so the bytes alone decide
-decided : (c : After-read_witness) → c.read_witness.result ≡ witness_says (map transition_of (held c.args.table.now)) (shape_of (heading_of c.args.heading.now)) c.args.bytes.now
+decided : (c : After-read_witness) → c.read_witness.result ≡ witness_says (transitions_in c.args.table) (shape_in c.args.table) c.args.bytes.now
 decided c =
     c.read_witness.ensures.answer
-    ∙ admit_roomy (room c.new-places.result) (room c.new-inners.result) (map transition_of (held c.args.table.now)) (shape_of (heading_of c.args.heading.now)) c.args.bytes.now
+    ∙ admit_roomy (room c.new-places.result) (room c.new-inners.result) (transitions_in c.args.table) (shape_in c.args.table) c.args.bytes.now
     (enough c.new-places.result most_places c.place-place_memory.result c.new-places.ensures.held c.new-places.ensures.behind)
     (enough c.new-inners.result most_inners c.inner-inner_memory.result c.new-inners.ensures.held c.new-inners.ensures.behind)
 
@@ -27,5 +27,5 @@ returns-in_err-read_witness c =
 pub returns : goal.returns
 returns c =
     given _ _ _ (sym c.in_ok-read_witness.was ∙ decided (goal.at.returns c).After-read_witness)
-    (c.short.ensures ∙ witness_short_lem c.read_witness.new.places c.read_witness.new.inners (witness_at (shape_of (heading_of c.args.heading.now)) c.args.bytes.now)
+    (c.short.ensures ∙ witness_short_lem c.read_witness.new.places c.read_witness.new.inners (witness_at (shape_in c.args.table) c.args.bytes.now)
     c.in_ok-read_witness.ensures.memory.0.0 c.in_ok-read_witness.ensures.memory.1.0)

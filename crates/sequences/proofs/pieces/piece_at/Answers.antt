@@ -2,7 +2,7 @@ use Rattle.std.proofs.Common.{◌≡◌, ℕ, ◌+◌, ◌-◌, ◌≤◌, lengt
 use Rattle.std.proofs.lemmas.List.{length-take-le, length-drop}
 use Rattle.formats.specs.Pieces.{rest_from, piece_end}
 use Rattle.formats.proofs.PieceTests.{no_length, no_rest, found}
-use Rattle.sequences.proofs.piece.piece_at.Goals as goal
+use Rattle.sequences.proofs.pieces.piece_at.Goals as goal
 
 pub returns-then-left-lt-LENGTH_BYTES : goal.returns-then-left-lt-LENGTH_BYTES
 returns-then-left-lt-LENGTH_BYTES c = rw c.at.ensures (no_length c.args.kind c.args.input.now c.args.at (omega arith))

@@ -1,0 +1,73 @@
+// The fields of a piece, and the tests on them.
+// Each is told the kind of its fault, as its definition is: a struct of the kinds would be looked into at each test.
+ghost use Rattle.std.specs.Prelude.{◌≡◌, ℕ, ◌+◌, ◌≤◌, length};
+ghost use Rattle.formats.specs.Pieces.{rest_from, byte_at, fault_at, reach_says, long_says, count_says, above_says, giving};
+ghost use Rattle.rows.specs.Bytes.{word_at};
+
+use crate::piece::{LENGTH_BYTES, Piece};
+use crate::pieces::require;
+use rows::bytes::{byte_at, word_at};
+use rows::{Answer, Fault, FaultKind};
+
+impl Piece<'_> {
+    // The fault at a byte of the rest, or at its end.
+    pub(crate) fn fault(self, kind: FaultKind, at: usize) -> Fault
+        requires { at ≤ length self.rest.now }
+        ensures { result ≡ fault_at kind (rest_from self.entry.offset + at) }
+    {
+        Fault::at(kind, self.offset + LENGTH_BYTES + at)
+    }
+
+    // Where the next piece begins.
+    pub(crate) fn end(self) -> usize
+        ensures { result ≡ rest_from self.entry.offset + length self.entry.rest.now }
+    {
+        self.offset + LENGTH_BYTES + self.rest.len()
+    }
+
+    // Whether the rest has so many bytes at least.
+    pub(crate) fn reaches(self, n: usize, kind: FaultKind) -> Answer
+        ensures { result ≡ reach_says kind self.entry.offset self.entry.rest.now n }
+    {
+        require(n <= self.rest.len(), Fault::at(kind, self.offset))
+    }
+
+    // Whether the rest has exactly so many bytes.
+    pub(crate) fn is_long(self, n: usize, kind: FaultKind) -> Answer
+        ensures { result ≡ long_says kind self.entry.offset self.entry.rest.now n }
+    {
+        require(self.rest.len() == n, Fault::at(kind, self.offset))
+    }
+
+    // The count in a byte of the rest, which lies within its limits.
+    pub(crate) fn count_at(
+        self,
+        at: usize,
+        least: usize,
+        most: usize,
+        kind: FaultKind,
+    ) -> Result<u8, Fault>
+        requires { at ≤ length self.rest.now }
+        ensures { result ≡ giving (count_says kind self.entry.offset self.entry.rest.now at least most) (byte_at self.entry.rest.now at) }
+    {
+        let count = byte_at(self.rest, at);
+        if (least..=most).contains(&usize::from(count)) {
+            Ok(count)
+        } else {
+            Err(self.fault(kind, at))
+        }
+    }
+
+    // The number in two bytes of the rest, which is greater than another.
+    pub(crate) fn number_above(self, at: usize, least: u16, kind: FaultKind) -> Result<u16, Fault>
+        requires { at ≤ length self.rest.now }
+        ensures { result ≡ giving (above_says kind self.entry.offset self.entry.rest.now at least) (word_at self.entry.rest.now at) }
+    {
+        let number = word_at(self.rest, at);
+        if least < number {
+            Ok(number)
+        } else {
+            Err(self.fault(kind, at))
+        }
+    }
+}

@@ -1,0 +1,49 @@
+// Finding the pieces of a table or a witness.
+ghost use Rattle.std.specs.Prelude.{◌≡◌, ℕ, ◌≤◌, length};
+ghost use Rattle.formats.specs.Pieces.{version_says};
+ghost use Rattle.sequences.specs.PiecesFound.{piece_found};
+ghost use Rattle.rows.specs.Faults.{check};
+
+use crate::piece::{LENGTH_BYTES, Piece};
+use rows::bytes::word_at;
+use rows::{Answer, Fault, FaultKind};
+
+// The version that the first byte names, and where the first piece begins.
+const VERSION: u8 = 1;
+
+pub(crate) const PIECES_FROM: usize = 1;
+
+// Nothing where the test is passed, else the fault.
+pub(crate) fn require(test: bool, fault: Fault) -> Answer
+    ensures { result ≡ check test fault }
+{
+    if test { Ok(()) } else { Err(fault) }
+}
+
+// Whether the first byte is there and names the version.
+pub(crate) fn version_test(bytes: &[u8], kind: FaultKind) -> Answer
+    ensures { result ≡ version_says kind bytes.now }
+{
+    match bytes {
+        [VERSION, ..] => Ok(()),
+        _ => Err(Fault::at(kind, 0)),
+    }
+}
+
+// The piece that begins at an offset, where its length field and its rest lie within the input.
+pub(crate) fn piece_at<'a>(input: &'a [u8], at: usize, kind: FaultKind) -> Result<Piece<'a>, Fault>
+    requires { at ≤ length input.now }
+    ensures { piece_found kind input.now at result }
+{
+    let left = input.len() - at;
+    if left < LENGTH_BYTES {
+        return Err(Fault::at(kind, at));
+    }
+    let length = usize::from(word_at(input, at));
+    if left - LENGTH_BYTES < length {
+        return Err(Fault::at(kind, at));
+    }
+    let from = at + LENGTH_BYTES;
+    let rest = &input[from..from + length];
+    Ok(Piece { offset: at, rest })
+}
