@@ -4,7 +4,7 @@ use Rattle.std.proofs.lemmas.Bool.{le-leb, lt-ltb, and_from, cond-true}
 use Rattle.rows.specs.declared.fault.Fault.{Fault}
 use Rattle.rows.specs.declared.fault.FaultKind.TheVariants.{LayerByte}
 use Rattle.rows.specs.declared.numbers.Numbers.{Numbers}
-use Rattle.rows.specs.Faults.{Said, fault_of, ◌and_then◌, moved}
+use Rattle.rows.specs.Faults.{Said, fault_of, moved}
 use Rattle.rows.proofs.Chains.{stops, goes, checked}
 use Rattle.methods.specs.declared.layer.FirstByte.{FirstByte}
 use Rattle.methods.specs.declared.layer.FirstByte.TheVariants.{HandDown, Own}
@@ -14,7 +14,7 @@ use Rattle.methods.specs.Openings.{row_says}
 use Rattle.methods.specs.Questions.{Question, question, Meaning, asked, YesExactly}
 use Rattle.methods.proofs.Asked.{asked_within, exactly}
 use Rattle.extension.specs.WeakenLaws.{weaken_only}
-use Rattle.extension.specs.Weakens.{lower_from, lowered, slack_tests, weaken_own, weaken_says, WeakenYes}
+use Rattle.extension.specs.Weakens.{lower_from, slack_tests, weaken_own, weaken_says, WeakenYes}
 use Rattle.extension.proofs.OrderTests.{le_test}
 
 module _ (below : Meaning) (count : ℕ) (sheet : List Numbers) (goal : Numbers) (certificate : List ℕ) (l : count ≤ length sheet) where

@@ -1,12 +1,12 @@
 -- From what a method of ours means to what a question with a sheet and a count answers.
-use Rattle.std.proofs.Common.{◌≡◌, ℕ, ◌-◌, ◌<◌, ◌≤◌, Bool, true, leb, List, length, take, Ok, Err, sym, ap, ◌∙◌, subst, inl, inr, arith}
+use Rattle.std.proofs.Common.{◌≡◌, ℕ, ◌<◌, ◌≤◌, Bool, true, leb, List, length, take, Ok, Err, sym, ap, ◌∙◌, subst, inl, inr}
 use Rattle.std.proofs.lemmas.List.{length-take-le}
 use Rattle.std.proofs.lemmas.Bool.{le-leb, leb-true, lt-leb, cases_lt, cond-true, cond-false}
 use Rattle.rows.specs.declared.fault.Fault.{Fault}
 use Rattle.rows.specs.declared.fault.FaultKind.TheVariants.{TooManyFacts}
 use Rattle.rows.specs.declared.numbers.Numbers.{Numbers}
 use Rattle.rows.specs.Faults.{Said, fault_of, ◌and_then◌, check}
-use Rattle.rows.proofs.Chains.{both, check_true, checked, stops, goes, failed, never}
+use Rattle.rows.proofs.Chains.{both, check_true, stops, goes, failed, never}
 use Rattle.methods.specs.OpeningLaws.{opening_yes}
 use Rattle.methods.specs.Openings.{opening, opening_asked, opened, Opened}
 use Rattle.methods.specs.Questions.{Question, question, Meaning, asked, YesExactly}
@@ -58,11 +58,3 @@ pub opening_passed : (count : ℕ) (sheet : List Numbers) (goal : Numbers) → O
 opening_passed count sheet goal e =
     let p = both (check (leb count (length sheet)) (fault_of TooManyFacts 0 0 0)) (opening (take count sheet) goal) (sym e) in
     (leb-true _ _ (check_true _ _ p.0), opening_yes _ _ p.1)
-
--- the tests on the facts, as the code has them
-pub opening_begins : (count : ℕ) (sheet : List Numbers) (goal : Numbers) (facts : List Numbers) (r : Said) → count ≤ length sheet → facts ≡ take count sheet → r ≡ opening facts goal → r ≡ opening_asked count sheet goal
-opening_begins count sheet goal facts r l e h = goes _ _ _ (checked _ _ (le-leb _ _ l)) (h ∙ ap (λ (fs : List Numbers). opening fs goal) e)
-
--- a test under other names
-pub check_is : (said : Said) (p q : Bool) (f g : Fault) → p ≡ q → f ≡ g → said ≡ check p f → said ≡ check q g
-check_is said p q f g d e h = h ∙ ap (λ (b : Bool). check b f) d ∙ ap (check q) e

@@ -1,12 +1,12 @@
--- Asking the method below: its faults can be moved, one more fact stands behind the others, and those stay.
-use Rattle.std.proofs.Common.{◌≡◌, ℕ, ◌+◌, ◌^◌, ◌<◌, ◌≤◌, List, [], ◌∷◌, ◌++◌, length, take, drop, set, Some, None, Ok, Err, Option, unwrap_or, sym, refl, ap, ◌∙◌, inl, inr, arith}
-use Rattle.std.proofs.lemmas.List.{drop_all, take_rest, length-drop, length-set, take_more_set, take-take, take-set}
+-- Asking the method below: the rest of the certificate, the places of its faults, and the facts under one more.
+use Rattle.std.proofs.Common.{◌≡◌, ℕ, ◌+◌, ◌^◌, ◌<◌, ◌≤◌, List, [], length, take, drop, set, Some, None, Ok, Err, Option, unwrap_or, sym, refl, ap, ◌∙◌, inl, inr, arith}
+use Rattle.std.proofs.lemmas.List.{drop_all, take_rest, length-drop, take-take, take-set}
 use Rattle.std.specs.Borrow.{Bor}
 use Rattle.std.specs.Slice.{IsGetRangeResult}
 use Rattle.rows.specs.declared.fault.Fault.{Fault}
 use Rattle.rows.specs.declared.numbers.Numbers.{Numbers}
-use Rattle.rows.specs.Faults.{Said, Movable, moved}
-use Rattle.methods.specs.Questions.{question, Meaning, Lawful, asked}
+use Rattle.rows.specs.Faults.{Said, Movable}
+use Rattle.methods.specs.Questions.{Meaning, Lawful, asked}
 use Rattle.methods.proofs.AskAnswers.{placed_answer}
 
 movable_from : (offset n : ℕ) (said : Said) → ((f : Fault) → said ≡ Err f → f.place ≤ n) → n + offset < 2 ^ 64 → Movable offset said
@@ -21,24 +21,14 @@ rest_from certificate offset None empty rest n h e =
 rest_from certificate offset (Some part) empty rest n h e =
     ap (λ (r : Bor (List ℕ)). r.now) e ∙ h.0.2 ∙ take_rest certificate offset
 
--- the answer below by the certificate from an offset on, moved: every place fits
-pub moved_below : (meaning : Meaning) (lawful : Lawful meaning) (count : ℕ) (sheet : List Numbers) (goal : Numbers) (certificate : List ℕ) (offset : ℕ) (said r : Said) → length certificate < 2 ^ 64 → offset < 2 ^ 64 →
-    said ≡ asked meaning count sheet goal (drop offset certificate) → (Movable offset said → r ≡ moved offset said) → r ≡ moved offset (asked meaning count sheet goal (drop offset certificate))
-moved_below meaning lawful count sheet goal certificate offset said r c o e m =
-    m (movable_from offset (length (drop offset certificate)) said (placed_answer meaning lawful count sheet goal (drop offset certificate) said e) (omega (arith, length-drop offset certificate))) ∙ ap (moved offset) e
+-- the places of a lawful method's faults about the certificate from an offset on can all be moved by it
+pub below_movable : (meaning : Meaning) (lawful : Lawful meaning) (count : ℕ) (sheet : List Numbers) (goal : Numbers) (certificate : List ℕ) (offset : ℕ) → length certificate < 2 ^ 64 → offset < 2 ^ 64 →
+    Movable offset (asked meaning count sheet goal (drop offset certificate))
+below_movable meaning lawful count sheet goal certificate offset c o =
+    movable_from offset (length (drop offset certificate)) _ (placed_answer meaning lawful count sheet goal (drop offset certificate) _ refl) (omega (arith, length-drop offset certificate))
 
--- the sheet with one more fact behind the others
-pub one_more : (count : ℕ) (sheet : List Numbers) (fact : Numbers) → count < length sheet → take (count + 1) (set sheet count fact) ≡ take count sheet ++ fact ∷ []
-one_more count sheet fact l = take_more_set sheet count fact l
-
+-- the facts stay under one more that is put behind them
 pub kept_under : (count : ℕ) (last sheet : List Numbers) (fact : Numbers) → take (count + 1) last ≡ take (count + 1) (set sheet count fact) → take count last ≡ take count sheet
 kept_under count last sheet fact e =
     let l : count ≤ count + 1 = omega arith in
     sym (take-take count (count + 1) last l) ∙ ap (take count) e ∙ take-take count (count + 1) (set sheet count fact) l ∙ take-set sheet count fact
-
-pub added_answer : (meaning : Meaning) (count : ℕ) (sheet : List Numbers) (fact goal : Numbers) (part : List ℕ) (offset : ℕ) (r : Said) → count < length sheet →
-    r ≡ moved offset (meaning (question (take (count + 1) (set sheet count fact)) goal part (length (set sheet count fact)))) →
-    r ≡ moved offset (meaning (question (take count sheet ++ fact ∷ []) goal part (length sheet)))
-added_answer meaning count sheet fact goal part offset r l e =
-    e ∙ ap (λ (fs : List Numbers). moved offset (meaning (question fs goal part (length (set sheet count fact))))) (one_more count sheet fact l)
-    ∙ ap (λ (n : ℕ). moved offset (meaning (question (take count sheet ++ fact ∷ []) goal part n))) (length-set sheet count fact)

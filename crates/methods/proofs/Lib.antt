@@ -7,7 +7,6 @@ pub mod AskAnswers
 pub mod SumsExactly
 pub mod Listed
 pub mod Handing
-pub mod Divisions
 pub mod Tabulated
 pub mod LayerAnswers
 pub mod CutsExactly

@@ -1,5 +1,5 @@
 -- The row of a split, and its own part: what each way through its code answers.
-use Rattle.std.proofs.Common.{◌≡◌, ℕ, ◌+◌, ◌<◌, ◌≤◌, not, ◌&&◌, ltb, List, [], ◌∷◌, ◌++◌, length, take, drop, Ok, Err, Result, sym, ap, ◌∙◌, subst}
+use Rattle.std.proofs.Common.{◌≡◌, ℕ, ◌<◌, ◌≤◌, not, ◌&&◌, ltb, List, [], ◌∷◌, ◌++◌, length, take, drop, Ok, Err, Result, sym, ap, ◌∙◌, subst}
 use Rattle.std.specs.Result.{MatchResult, IsErrAnd}
 use Rattle.std.proofs.lemmas.List.{drop-take}
 use Rattle.std.proofs.lemmas.Bool.{le-leb, lt-leb}
@@ -16,11 +16,10 @@ use Rattle.rows.specs.WrittenMade.{WrittenFrom}
 use Rattle.rows.specs.Shapes.{Within, beyond, first_beyond, opposite_of}
 use Rattle.rows.proofs.Chains.{stops, goes, checked, failed}
 use Rattle.rows.proofs.First.{none_first, some_first}
-use Rattle.methods.specs.Layers.{adding}
 use Rattle.methods.specs.Openings.{most_facts, opening_asked}
 use Rattle.methods.specs.Questions.{question, Meaning}
 use Rattle.methods.specs.SplitsAsk.{SplitMade, halves}
-use Rattle.methods.specs.Splits.{number_from, first_from, first_length, second_from, first_part, second_part, split_row, unless_written, split_tests, split_own}
+use Rattle.methods.specs.Splits.{number_from, first_from, first_length, second_from, first_part, split_row, unless_written, split_tests, split_own}
 use Rattle.methods.proofs.Asked.{opening_passed}
 use Rattle.methods.proofs.LayerAnswers.{room_count}
 

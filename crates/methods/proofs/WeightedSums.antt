@@ -1,7 +1,7 @@
 -- The loop that adds up multiplier × number over the facts: what it has after i facts, and that it fits 64 bits.
 use Rattle.std.proofs.Common.{◌≡◌, ℕ, ◌+◌, ◌*◌, ◌<◌, ◌≤◌, List, [], ◌∷◌, ◌++◌, length, get_or, take, ℤ, pos, ◌+ℤ◌, ◌*ℤ◌, sym, ap, ◌∙◌, subst, arith, lit<, inl, inr, w64, SFits, to_z, of_z}
 use Rattle.std.proofs.ByRecursion.{All-get_or}
-use Rattle.std.proofs.lemmas.List.{take_more, take_all, length-take-le}
+use Rattle.std.proofs.lemmas.List.{take_more, length-take-le}
 use Rattle.std.proofs.lemmas.Bool.{cases_lt}
 use Rattle.std.proofs.lemmas.Int.{ints, to_z-of_z}
 use Rattle.rows.specs.declared.limits.Limit.TheVariants.{RowNumber}
@@ -86,9 +86,6 @@ module _ (item : ℕ) (bytes : List ℕ) (at : ℕ) (facts : List Numbers) (i : 
           small = subst (Bounded ((i + 1) * most_product)) (sym a.is) (sum_bounded i most_product _ _ t.small p);
         };
       }
-
-pub turn_end : (item : ℕ) (bytes : List ℕ) (at : ℕ) (facts : List Numbers) (i : ℕ) (sum : ℤ) → Turn item bytes at facts i sum → length facts ≤ i → sum ≡ weighted item bytes at facts
-turn_end item bytes at facts i sum t l = t.so_far ∙ ap (weighted item bytes at) (take_all i facts l)
 
 -- what the code's product of the goal's multiplier and number computes, at 64 bits
 module _ (m x : ℤ) (certificate : List ℕ) (from : ℕ) (goal : Numbers) (weight item : ℕ) (c : Comparable certificate from goal weight) (fm : SFits w64 m) (fx : SFits w64 x) (em : m ≡ pos weight) (ex : x ≡ item_of goal item) where

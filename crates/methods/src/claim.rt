@@ -1,5 +1,5 @@
 // What a method is asked.
-ghost use Rattle.std.specs.Prelude.{◌≡◌, ◌<◌, ◌≤◌, length, take, MatchResult};
+ghost use Rattle.std.specs.Prelude.{◌≡◌, ◌<◌, ◌≤◌, length, take, drop, MatchResult};
 ghost use Rattle.rows.specs.Faults.{fault_of};
 ghost use Rattle.rows.specs.declared.fault.FaultKind.TheVariants.{TooManyFacts};
 
@@ -22,5 +22,18 @@ impl<'a> Claim<'a> {
         sheet
             .get(..self.count)
             .ok_or(Fault::of(FaultKind::TooManyFacts))
+    }
+
+    // The same claim by the certificate from an offset on, which is empty past its end.
+    #[tactic(auto, using(crate::proofs::Handing::rest_from))]
+    pub fn skip(self, offset: usize) -> Claim<'a>
+        ensures count { result.count ≡ self.entry.count }
+        ensures goal { result.goal.now ≡ self.entry.goal.now }
+        ensures certificate { result.certificate.now ≡ drop offset self.entry.certificate.now }
+    {
+        Claim {
+            certificate: self.certificate.get(offset..).unwrap_or(&[]),
+            ..self
+        }
     }
 }

@@ -3,7 +3,7 @@ ghost use Rattle.std.specs.Prelude.{◌≡◌, ℕ, ◌<◌, ◌&&◌, List, [],
 ghost use Rattle.methods.specs.Layers.{first_byte_of};
 ghost use Rattle.methods.specs.Openings.{most_facts};
 ghost use Rattle.methods.specs.Questions.{asked, question as asking};
-ghost use Rattle.rows.specs.Faults.{fault_of, check as checks, moved as moved_by};
+ghost use Rattle.rows.specs.Faults.{fault_of, check as checks, moved as moved_by, Movable};
 ghost use Rattle.rows.specs.declared.fault.FaultKind.TheVariants.{NoRoomForFact};
 
 use crate::checking::check;
@@ -43,6 +43,20 @@ pub(crate) fn room_test(count: usize, rows: usize) -> Answer
     check(has_room, Fault::of(FaultKind::NoRoomForFact))
 }
 
+// Puts the claim to the method below by the certificate from an offset on; a fault moves by the offset.
+fn put_below<M: ProofMethod>(
+    below: &M,
+    sheet: &mut [Numbers],
+    claim: Claim<'_>,
+    offset: usize,
+) -> Answer
+    ensures answer { let said = asked (M.ProofMethod.meaning below.now) claim.entry.count sheet.old claim.entry.goal.now (drop offset claim.entry.certificate.now) in Movable offset said → result ≡ moved_by offset said }
+    ensures kept { take claim.entry.count sheet.new ≡ take claim.entry.count sheet.old }
+{
+    let answer = below.question(sheet, claim.skip(offset));
+    moved(answer, offset)
+}
+
 // The answer of the method below by the certificate from an offset on, as its layer reports it.
 pub fn ask_below<M: ProofMethod>(
     below: &M,
@@ -53,15 +67,7 @@ pub fn ask_below<M: ProofMethod>(
     ensures answer { result ≡ moved_by offset (asked (M.ProofMethod.meaning below.now) claim.entry.count sheet.old claim.entry.goal.now (drop offset claim.entry.certificate.now)) }
     ensures kept { take claim.entry.count sheet.new ≡ take claim.entry.count sheet.old }
 {
-    let certificate = claim.certificate.get(offset..).unwrap_or(&[]);
-    let answer = below.question(
-        sheet,
-        Claim {
-            certificate,
-            ..claim
-        },
-    );
-    moved(answer, offset)
+    put_below(below, sheet, claim, offset)
 }
 
 // The same with one more fact, which is put behind the others.
