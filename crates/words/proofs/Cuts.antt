@@ -70,14 +70,14 @@ cut_off (n ∷ ns) line text h =
     let first : h.0 ≡ p.0 ∷ drop n h.0 = drop_at_char p.0 h.0 0 n p.2 (separator_ascii p.0 p.1) in
     cut_off ns line h.0 h.1 ∙ ap words_of first ∙ words_blank (p.0 ∷ []) (drop n h.0) (p.1, tt) ∙ ap words_of (sym h.3)
 
-scalar : (b : ℕ) → b < 128 → IsScalar b
-scalar b h = grind (arith, nat_tests)
+ascii_scalar : (b : ℕ) → b < 128 → IsScalar b
+ascii_scalar b h = grind (arith, nat_tests)
 
 -- and then none stands in front
 fully : (text : List ℕ) (o : Option ℕ) → Cuts text o → IfSome o (λ n. n ≡ 0) → 0 < length text → separator (get_or text 0 0) ≡ false
 fully [] o h z some = absurd (omega arith)
 fully (b ∷ bs) None h z some =
-    ⊎_elim (λ t. h separator separators_lem b bs (scalar b (separator_ascii b t)) (sym (ap (λ l. l ++ bs) (encode_ascii b (separator_ascii b t))))) (λ f. f)
+    ⊎_elim (λ t. h separator separators_lem b bs (ascii_scalar b (separator_ascii b t)) (sym (ap (λ l. l ++ bs) (encode_ascii b (separator_ascii b t))))) (λ f. f)
     (cases_Bool (separator b))
 fully (b ∷ bs) (Some n) h z some =
     let p = h separator separators_lem in
