@@ -14,10 +14,11 @@ pub(crate) fn weight_at(bytes: &[u8], at: usize, least: u16) -> Result<u16, Faul
     ensures { MatchResult result (λ n. (Ok tt ≡ range_says least bytes.now at) × (n ≡ word_at bytes.now at)) (λ f. Err f ≡ range_says least bytes.now at) }
 {
     let number = word_at(bytes, at);
-    if number < least || number > MOST_WEIGHT {
-        return Err(Fault::at(FaultKind::MultiplierRange, at));
+    if (least..=MOST_WEIGHT).contains(&number) {
+        Ok(number)
+    } else {
+        Err(Fault::at(FaultKind::MultiplierRange, at))
     }
-    Ok(number)
 }
 
 // A few rows, and for each of them a multiplier in range, which stand in the certificate from an offset on: their sums
