@@ -45,7 +45,7 @@ pub record Accumulated (bits : ℕ) (x y : ℤ) : Type 0 where
   pub added : SFits w64 (to_z w64 bits +ℤ to_z w64 (of_z w64 (to_z w64 (of_z w64 x) *ℤ to_z w64 (of_z w64 y))))
   pub is : to_z w64 (of_z w64 (to_z w64 bits +ℤ to_z w64 (of_z w64 (to_z w64 (of_z w64 x) *ℤ to_z w64 (of_z w64 y))))) ≡ to_z w64 bits +ℤ x *ℤ y
 
-pub accumulated : (bits : ℕ) (x y : ℤ) → SFits w64 x → SFits w64 y → SFits w64 (x *ℤ y) → SFits w64 (to_z w64 bits +ℤ x *ℤ y) → Accumulated bits x y
+accumulated : (bits : ℕ) (x y : ℤ) → SFits w64 x → SFits w64 y → SFits w64 (x *ℤ y) → SFits w64 (to_z w64 bits +ℤ x *ℤ y) → Accumulated bits x y
 accumulated bits x y fx fy fp fs =
     let p : to_z w64 (of_z w64 x) *ℤ to_z w64 (of_z w64 y) ≡ x *ℤ y = rw (to_z-of_z w64 x fx, to_z-of_z w64 y fy) in
     let s : to_z w64 bits +ℤ to_z w64 (of_z w64 (to_z w64 (of_z w64 x) *ℤ to_z w64 (of_z w64 y))) ≡ to_z w64 bits +ℤ x *ℤ y = rw (p, to_z-of_z w64 (x *ℤ y) fp) in

@@ -1,5 +1,6 @@
 -- The relation "is the first" has one answer, the one that `first_below` computes.
-use Rattle.std.proofs.Common.{◌≡◌, ℕ, zero, suc, ◌<◌, ◌≤◌, Bool, true, false, cond, Some, None, Option, sym, refl, ap, ◌∙◌, inl, inr, arith}
+use Rattle.std.proofs.Common.{◌≡◌, ℕ, zero, suc, ◌+◌, ◌<◌, ◌≤◌, Bool, true, false, cond, Some, None, Option, sym, refl, ap, ◌∙◌, subst, inl, inr, arith}
+use Rattle.std.specs.List.{find, range_with_len}
 use Rattle.std.specs.Option.{MatchOption}
 use Rattle.std.proofs.lemmas.Bool.{cases_eq}
 use Rattle.rows.specs.Firsts.{or_else, first_below, NoneBelow, IsFirst}
@@ -54,7 +55,22 @@ first_some test (suc n) i e = from (first_below test n) (test n) (λ k h. first_
     from None true h x = let s : n ≡ i = cc in omega arith
     from None false h x = let z : ◌≡◌ {A = ℕ} 0 1 = cc in absurd (omega arith)
 
--- what a search of the numbers from 0 on finds
-pub found_first : (test : ℕ → Bool) (n : ℕ) (r : Option ℕ) → MatchOption r ((k : ℕ) → 0 ≤ k → k < n → test k ≡ false) (λ i. (0 ≤ i) × (i < n) × (test i ≡ true) × ((k : ℕ) → 0 ≤ k → k < i → test k ≡ false)) → IsFirst test n r
-found_first test n None h = λ k l. h k (omega arith) l
-found_first test n (Some i) h = (h.1, h.2, λ k l. h.3 k (omega arith) l)
+-- what `find` gives over the numbers from a on
+abbrev Found : (ℕ → Bool) → ℕ → ℕ → Option ℕ → Type 0
+Found test a n r = MatchOption r ((k : ℕ) → a ≤ k → k < a + n → test k ≡ false) (λ i. (a ≤ i) × (i < a + n) × (test i ≡ true) × ((k : ℕ) → a ≤ k → k < i → test k ≡ false))
+
+found : (test : ℕ → Bool) (a n : ℕ) → Found test a n (find test (range_with_len a n))
+found test a zero = λ k l m. absurd (omega arith)
+found test a (suc n) = step (test a) (find test (range_with_len (a + 1) n)) refl (found test (a + 1) n)
+  where
+    step : (b : Bool) (o : Option ℕ) → test a ≡ b → Found test (a + 1) n o → Found test a (suc n) (cond b (Some a) o)
+    step true o t h = (omega arith, omega arith, t, λ k l m. absurd (omega arith))
+    step false None t h = λ k l m. elim (cases_eq k a) [ inl s ↦ ap test s ∙ t | inr s ↦ h k (omega arith) (omega arith) ]
+    step false (Some i) t h = (omega arith, omega arith, h.2, λ k l m. elim (cases_eq k a) [ inl s ↦ ap test s ∙ t | inr s ↦ h.3 k (omega arith) m ])
+
+pub found_first : (test : ℕ → Bool) (n : ℕ) (r : Option ℕ) → r ≡ find test (range_with_len 0 n) → IsFirst test n r
+found_first test n r e = subst (IsFirst test n) (sym e) (from (find test (range_with_len 0 n)) (found test 0 n))
+  where
+    from : (o : Option ℕ) → Found test 0 n o → IsFirst test n o
+    from None h = λ k l. h k (omega arith) (omega arith)
+    from (Some i) h = (omega arith, h.2, λ k l. h.3 k (omega arith) l)

@@ -1,5 +1,6 @@
 // Plain numbers in the shape of a row.
-ghost use Rattle.std.specs.Prelude.{◌≡◌, ℕ};
+ghost use Rattle.std.specs.Prelude.{◌≡◌, ℕ, ◌<◌, find, IfSome};
+ghost use Rattle.std.specs.List.{range_with_len};
 ghost use Rattle.rows.specs.Firsts.{IsFirst};
 ghost use Rattle.rows.specs.Limits.{magnitude_of, items};
 ghost use Rattle.rows.specs.Made.{HeldTo, unless_beyond};
@@ -28,12 +29,20 @@ impl Numbers {
         self.coefficients.get(item).copied().unwrap_or(self.bound)
     }
 
+    // The lowest item whose number passes the limit, as an index.
+    fn index_beyond(&self, limit: Limit) -> Option<usize>
+        ensures found { result ≡ find (beyond (magnitude_of limit) self.now) (range_with_len 0 items) }
+        ensures within { IfSome result (λ item. item < items) }
+    {
+        (0..ITEMS).find(|item| !limit.admits(self.item(*item)))
+    }
+
     // The lowest item whose number passes the limit.
     pub fn first_beyond(&self, limit: Limit) -> Option<u8>
         ensures value { result ≡ first_beyond (magnitude_of limit) self.now }
         ensures first { IsFirst (beyond (magnitude_of limit) self.now) items result }
     {
-        (0..ITEMS as u8).find(|item| !limit.admits(self.item(usize::from(*item))))
+        self.index_beyond(limit).map(|item| item as u8)
     }
 
     // Nothing where every number lies within the limit, else the first that does not.

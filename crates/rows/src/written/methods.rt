@@ -57,10 +57,18 @@ fn turned_bound(bound: i64) -> i64
     -bound - 1
 }
 
+// A number with its sign turned.
+fn turned(number: i64) -> i64
+    requires { (neg_ℤ (pos (magnitude_of WrittenNumber)) ≤ℤ number) × (number ≤ℤ pos (magnitude_of WrittenNumber)) }
+    ensures { result ≡ neg_ℤ number }
+{
+    -number
+}
+
 // Every number with its sign turned.
 fn negated(numbers: [i64; COLUMNS]) -> [i64; COLUMNS]
     requires { ValuesWithin (magnitude_of WrittenNumber) numbers }
     ensures { result ≡ map neg_ℤ numbers }
 {
-    numbers.map(|number| -number)
+    numbers.map(turned)
 }
