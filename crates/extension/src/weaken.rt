@@ -34,7 +34,7 @@ fn slack_test(slack: i64) -> Answer
         depth: 0,
         item: BOUND_ITEM,
     };
-    check(0 <= slack && slack <= WRITTEN_LIMIT, too_large)
+    check((0..=WRITTEN_LIMIT).contains(&slack), too_large)
 }
 
 // A bound lowered by a number.

@@ -1,5 +1,5 @@
 // Two-byte numbers of a certificate, and the weighted sums of facts.
-ghost use Rattle.std.specs.Prelude.{◌≡◌, ℕ, ◌+◌, ◌*◌, ◌<◌, ◌≤◌, length, MatchResult};
+ghost use Rattle.std.specs.Prelude.{◌≡◌, ℕ, ◌+◌, ◌*◌, ◌<◌, ◌≤◌, length, pos, MatchResult};
 ghost use Rattle.methods.specs.Weighing.{Rows, Weighable};
 ghost use Rattle.methods.specs.Weights.{range_says, weights_say, weighted};
 ghost use Rattle.rows.specs.Bytes.{word_at};
@@ -14,10 +14,11 @@ pub(crate) fn weight_at(bytes: &[u8], at: usize, least: u16) -> Result<u16, Faul
     ensures { MatchResult result (λ n. (Ok tt ≡ range_says least bytes.now at) × (n ≡ word_at bytes.now at)) (λ f. Err f ≡ range_says least bytes.now at) }
 {
     let number = word_at(bytes, at);
-    if number < least || number > MOST_WEIGHT {
-        return Err(Fault::at(FaultKind::MultiplierRange, at));
+    if (least..=MOST_WEIGHT).contains(&number) {
+        Ok(number)
+    } else {
+        Err(Fault::at(FaultKind::MultiplierRange, at))
     }
-    Ok(number)
 }
 
 // A few rows, and for each of them a multiplier in range, which stand in the certificate from an offset on: their sums
@@ -51,14 +52,22 @@ impl<'a> WeightedFacts<'a> {
         })
     }
 
+    // The multiplier of a fact, by the fact's index.
+    fn weight(&self, index: usize) -> i64
+        requires { index < length self.now.facts.now }
+        ensures { result ≡ pos (word_at self.now.certificate.now (self.now.from + 2 * index)) }
+    {
+        i64::from(word_at(self.certificate, self.from + 2 * index))
+    }
+
     // The sum over the facts, in their order, of multiplier × the fact's number of an item.
     pub(crate) fn sum(&self, item: usize) -> i64
         ensures { result ≡ weighted item self.now.certificate.now self.now.from self.now.facts.now }
     {
+        // A loop, since the proof finds no bound for a signed `sum` of a chain.
         let mut sum: i64 = 0;
         for (index, fact) in self.facts.iter().enumerate() {
-            let weight = word_at(self.certificate, self.from + 2 * index);
-            sum += i64::from(weight) * fact.item(item);
+            sum += self.weight(index) * fact.item(item);
         }
         sum
     }
