@@ -139,38 +139,9 @@ fn lengths(rt: HostRuntime) -> Result<(), Fail> {
     )
 }
 
-// The first byte and the answer.
-fn first_bytes() -> [(u8, Answer); 5] {
-    let unknown = fault(FaultKind::LayerByte, 0, 0, 0);
-    [
-        (0, Ok(())),
-        (1, fault(FaultKind::CertificateLength, 0, 0, 0)),
-        (2, unknown),
-        (128, unknown),
-        (255, unknown),
-    ]
-}
-
 #[test]
 fn first_byte(rt: HostRuntime) -> Result<(), Fail> {
-    for (byte, answer) in first_bytes() {
-        let mut sheet = [first(1, 1); 2];
-        expect(
-            &rt,
-            &cut(),
-            &mut sheet,
-            claim(1, &first(1, 1), &[byte]),
-            answer,
-        )?;
-    }
-    let mut sheet = [first(1, 1); 2];
-    expect(
-        &rt,
-        &cut(),
-        &mut sheet,
-        claim(1, &first(1, 1), &[]),
-        fault(FaultKind::CertificateLength, 0, 0, 0),
-    )
+    expect_first_bytes(&rt, &cut())
 }
 
 // The divided row at its limit and one past it, in each item.

@@ -71,3 +71,32 @@ pub fn expect<M: ProofMethod>(
     assert_eq!(rt; ask(method, sheet, claim), answer);
     Ok(())
 }
+
+// The first byte of a layer's certificate, alone, and the answer where the method below needs no certificate.
+fn first_bytes() -> [(u8, Answer); 5] {
+    let unknown = fault(FaultKind::LayerByte, 0, 0, 0);
+    [
+        (0, Ok(())),
+        (1, fault(FaultKind::CertificateLength, 0, 0, 0)),
+        (2, unknown),
+        (128, unknown),
+        (255, unknown),
+    ]
+}
+
+// A layer over the look-up answers each first byte so, and none.
+pub fn expect_first_bytes<M: ProofMethod>(rt: &impl Abort, layer: &M) -> Result<(), Fail> {
+    let goal = first(1, 1);
+    for (byte, answer) in first_bytes() {
+        let mut sheet = [first(1, 1); 2];
+        expect(rt, layer, &mut sheet, claim(1, &goal, &[byte]), answer)?;
+    }
+    let mut sheet = [first(1, 1); 2];
+    expect(
+        rt,
+        layer,
+        &mut sheet,
+        claim(1, &goal, &[]),
+        fault(FaultKind::CertificateLength, 0, 0, 0),
+    )
+}
