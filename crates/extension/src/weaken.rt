@@ -7,10 +7,10 @@ ghost use Rattle.rows.specs.Limits.{magnitude_of};
 ghost use Rattle.rows.specs.declared.limits.Limit.TheVariants.{RowNumber, WrittenNumber};
 
 use methods::layer::{FirstByte, ask_below};
-use methods::{Claim, ProofMethod, check};
+use methods::{Claim, ProofMethod};
 use rows::bytes::number_at;
 use rows::limits::{BOUND_ITEM, WRITTEN_LIMIT};
-use rows::{Answer, Fault, FaultKind, Numbers, Row};
+use rows::{Answer, Fault, FaultKind, Numbers, Row, check};
 
 // The certificate's first byte is 0 and the rest goes to the method below; or it is 1, and a four-byte number from 0 to
 // 1,000,000, by which the goal's bound is lowered, and the lower certificate follow.

@@ -9,9 +9,9 @@ ghost use Rattle.rows.specs.Limits.{columns};
 ghost use Rattle.rows.specs.Wholes.{int_eq_test};
 ghost use Rattle.rows.specs.declared.fault.FaultKind.TheVariants.{ColumnDiffers};
 
-use methods::{Claim, ProofMethod, check};
+use methods::{Claim, ProofMethod};
 use rows::limits::BOUND_ITEM;
-use rows::{Answer, Fault, FaultKind, Numbers};
+use rows::{Answer, Fault, FaultKind, Numbers, check};
 
 // The goal has no coefficient but zero and a bound of at least zero; the certificate is empty.
 #[derive(Clone, Copy)]

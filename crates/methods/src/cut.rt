@@ -8,7 +8,6 @@ ghost use Rattle.methods.specs.Questions.{asked, question as asking, YesExactly}
 ghost use Rattle.methods.specs.Weighing.{Rows};
 ghost use Rattle.rows.specs.Limits.{columns};
 
-use crate::checking::check;
 use crate::claim::Claim;
 use crate::columns::columns_test;
 use crate::layer::{FirstByte, ask_below, ask_with_fact, room_test};
@@ -16,7 +15,7 @@ use crate::method::ProofMethod;
 use crate::opening::opening;
 use crate::weights::{WeightedFacts, weight_at};
 use rows::limits::COLUMNS;
-use rows::{Answer, Fault, FaultKind, Limit, Numbers};
+use rows::{Answer, Fault, FaultKind, Limit, Numbers, check};
 use std::array::from_fn;
 
 // The certificate's first byte is 0 and the rest goes to the method below; or it is 1, and a two-byte divisor, a

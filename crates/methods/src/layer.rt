@@ -6,11 +6,10 @@ ghost use Rattle.methods.specs.Questions.{asked, question as asking};
 ghost use Rattle.rows.specs.Faults.{fault_of, check as checks, moved as moved_by, Movable};
 ghost use Rattle.rows.specs.declared.fault.FaultKind.TheVariants.{NoRoomForFact};
 
-use crate::checking::check;
 use crate::claim::Claim;
 use crate::limits::MOST_FACTS;
 use crate::method::ProofMethod;
-use rows::{Answer, Fault, FaultKind, Numbers, moved};
+use rows::{Answer, Fault, FaultKind, Numbers, check, moved};
 
 // What the first byte of a layer's certificate says.
 #[derive(Clone, Copy)]

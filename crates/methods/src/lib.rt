@@ -2,7 +2,6 @@
 #![tactic(auto)]
 
 mod asking;
-pub mod checking;
 pub mod claim;
 mod columns;
 pub mod cut;
@@ -16,7 +15,6 @@ pub mod split;
 mod weights;
 
 pub use asking::ask;
-pub use checking::check;
 pub use claim::Claim;
 pub use cut::Cut;
 pub use look_up::LookUp;

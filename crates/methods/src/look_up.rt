@@ -6,12 +6,11 @@ ghost use Rattle.methods.specs.Questions.{asked, YesExactly};
 ghost use Rattle.rows.specs.Faults.{Stated};
 ghost use Rattle.rows.specs.declared.fault.Fault.{Fault};
 
-use crate::checking::check;
 use crate::claim::Claim;
 use crate::method::ProofMethod;
 use crate::opening::opening;
 use rows::limits::BOUND_ITEM;
-use rows::{Answer, Fault, FaultKind, Numbers};
+use rows::{Answer, Fault, FaultKind, Numbers, check};
 
 // The certificate is empty.
 #[derive(Clone, Copy)]

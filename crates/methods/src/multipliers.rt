@@ -8,14 +8,13 @@ ghost use Rattle.methods.specs.SumsLaws.{multipliers_lawful};
 ghost use Rattle.rows.specs.Faults.{Stated};
 ghost use Rattle.rows.specs.declared.fault.Fault.{Fault};
 
-use crate::checking::check;
 use crate::claim::Claim;
 use crate::columns::columns_test;
 use crate::method::ProofMethod;
 use crate::opening::opening;
 use crate::weights::{WeightedFacts, weight_at};
 use rows::limits::{BOUND_ITEM, COLUMNS};
-use rows::{Answer, Fault, FaultKind, Numbers};
+use rows::{Answer, Fault, FaultKind, Numbers, check};
 
 // The certificate is a two-byte multiplier of the goal and one of each fact.
 #[derive(Clone, Copy)]

@@ -2,10 +2,9 @@
 ghost use Rattle.methods.specs.Openings.{opening_asked, row_says, rows_say};
 ghost use Rattle.std.specs.Prelude.{◌≡◌, take, MatchResult};
 
-use crate::checking::check;
 use crate::claim::Claim;
 use crate::limits::MOST_FACTS;
-use rows::{Answer, Fault, FaultKind, Numbers, Row};
+use rows::{Answer, Fault, FaultKind, Numbers, Row, check};
 
 // Whether plain numbers are a row.
 fn row_test(numbers: &Numbers) -> Answer

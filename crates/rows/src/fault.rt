@@ -1,5 +1,5 @@
 // What a refused call, reader or question says.
-ghost use Rattle.rows.specs.Faults.{number_of, fault_of, raised_within, moved as moved_by, moved_within, Movable};
+ghost use Rattle.rows.specs.Faults.{number_of, fault_of, check as checks, raised_within, moved as moved_by, moved_within, Movable};
 ghost use Rattle.std.specs.Prelude.{◌≡◌};
 
 // Every fault of the product, by what is wrong.
@@ -137,6 +137,13 @@ impl Fault {
 
 // What a question, or a call that answers no value, says.
 pub type Answer = Result<(), Fault>;
+
+// A yes where the test is passed, else the fault.
+pub fn check(passed: bool, fault: Fault) -> Answer
+    ensures { result ≡ checks passed fault }
+{
+    if passed { Ok(()) } else { Err(fault) }
+}
 
 // The answer of the method below, as its layer reports it: a fault's place moves by the offset of the lower certificate
 // and its depth rises by one; both stop at the largest that their types hold.

@@ -11,7 +11,7 @@ pub mod values;
 pub mod written;
 
 pub use expression::Expression;
-pub use fault::{Answer, Fault, FaultKind, moved};
+pub use fault::{Answer, Fault, FaultKind, check, moved};
 pub use limits::Limit;
 pub use numbers::{Numbers, TooLarge};
 pub use row::Row;

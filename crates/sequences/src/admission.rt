@@ -11,14 +11,14 @@ ghost use Rattle.formats.specs.Exact.{WitnessExactly};
 ghost use Rattle.formats.specs.Placed.{Placed};
 ghost use Rattle.formats.specs.Witnesses.{pieces_say, witness_at, numbers_in, content_says, witness_says, witness_memory_says, admit_says};
 
-use crate::pieces::{PIECES_FROM, require, version_test};
+use crate::pieces::{PIECES_FROM, version_test};
 use crate::references::references_test;
 use crate::view::TableView;
 use crate::witness::{Noted, WitnessReader, WitnessRecord, pieces_test};
 use formats::bytes_fit;
 use records::limits::{MOST_INNERS, MOST_PLACES};
 use records::{Heading, Inner, Place, Register};
-use rows::{Answer, Fault, FaultKind};
+use rows::{Answer, Fault, FaultKind, check};
 
 // Puts what a piece holds into its register.
 // The two registers stay two loans: a struct of both would want three lifetimes.
@@ -71,7 +71,7 @@ fn fill(
 fn memory_test(places: usize, inners: usize) -> Answer
     ensures { result ≡ witness_memory_says places inners }
 {
-    require(
+    check(
         MOST_PLACES <= places && MOST_INNERS <= inners,
         Fault::at(FaultKind::TableCount, 0),
     )

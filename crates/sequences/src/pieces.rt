@@ -2,7 +2,6 @@
 ghost use Rattle.std.specs.Prelude.{◌≡◌, ℕ, ◌≤◌, length};
 ghost use Rattle.formats.specs.Pieces.{version_says};
 ghost use Rattle.sequences.specs.PiecesFound.{piece_found};
-ghost use Rattle.rows.specs.Faults.{check};
 
 use crate::piece::{LENGTH_BYTES, Piece};
 use rows::bytes::word_at;
@@ -12,13 +11,6 @@ use rows::{Answer, Fault, FaultKind};
 const VERSION: u8 = 1;
 
 pub(crate) const PIECES_FROM: usize = 1;
-
-// Nothing where the test is passed, else the fault.
-pub(crate) fn require(test: bool, fault: Fault) -> Answer
-    ensures { result ≡ check test fault }
-{
-    if test { Ok(()) } else { Err(fault) }
-}
 
 // Whether the first byte is there and names the version.
 pub(crate) fn version_test(bytes: &[u8], kind: FaultKind) -> Answer

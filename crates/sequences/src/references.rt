@@ -10,14 +10,14 @@ ghost use Rattle.std.specs.Option.{option_map};
 
 use crate::named::Named;
 use crate::piece::Piece;
-use crate::pieces::{PIECES_FROM, require};
+use crate::pieces::PIECES_FROM;
 use crate::view::TableView;
 use crate::witness::{
     COUNT_FROM, NUMBER_FROM, Noted, ROWS_FROM, TRANSITION_BYTES, WitnessPiece, WitnessReader,
 };
 use records::{BoundedList, Transition};
 use rows::bytes::{byte_at, word_at};
-use rows::{Answer, FaultKind};
+use rows::{Answer, FaultKind, check};
 
 // Whether a number is among some.
 fn contains<const N: usize>(numbers: &BoundedList<u16, N>, number: u16) -> bool
@@ -67,7 +67,7 @@ impl Named<'_> {
             let at = plan_count_from + 1 + (TRANSITION_BYTES + stride) * e;
             let number = word_at(piece.rest, at);
             let fits = self.entry_fits(place, number);
-            require(fits, piece.fault(FaultKind::WitnessReference, at))?;
+            check(fits, piece.fault(FaultKind::WitnessReference, at))?;
         }
         Ok(())
     }
@@ -81,7 +81,7 @@ impl Named<'_> {
             WitnessPiece::Place(part) => self.plan_test(part),
             WitnessPiece::Transition(part) => {
                 let fits = self.inner_fits(word_at(part.rest, NUMBER_FROM));
-                require(fits, part.fault(FaultKind::WitnessReference, NUMBER_FROM))
+                check(fits, part.fault(FaultKind::WitnessReference, NUMBER_FROM))
             }
         }
     }

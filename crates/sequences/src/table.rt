@@ -10,7 +10,7 @@ ghost use Rattle.formats.specs.Tables.{heading_at, heading_says, table_at, conte
 ghost use Rattle.sequences.specs.TransitionsHanded.{reading_of, coming, coming_say};
 
 use crate::piece::Piece;
-use crate::pieces::{PIECES_FROM, piece_at, require, version_test};
+use crate::pieces::{PIECES_FROM, piece_at, version_test};
 use crate::stored::rows_at;
 use crate::transitions::TransitionReader;
 use formats::bytes_fit;
@@ -18,7 +18,7 @@ use records::limits::{
     MOST_CHOICES, MOST_INITIAL, MOST_INNERS, MOST_PLACES, MOST_TRANSITIONS, MOST_VALUES,
 };
 use records::{Heading, Register, Shape, Transition};
-use rows::{Answer, Fault, FaultKind};
+use rows::{Answer, Fault, FaultKind, check};
 
 // Where the fields of a heading stand in its rest.
 const VALUES_FROM: usize = 0;
@@ -80,7 +80,7 @@ fn content_test(bytes: &[u8]) -> Result<Heading, Fault>
 fn memory_test(transitions: usize, places: usize, inners: usize) -> Answer
     ensures { result ≡ memory_says transitions places inners }
 {
-    require(
+    check(
         MOST_TRANSITIONS <= transitions && MOST_PLACES <= places && MOST_INNERS <= inners,
         Fault::at(FaultKind::TableCount, 0),
     )

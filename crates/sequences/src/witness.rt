@@ -12,14 +12,14 @@ ghost use Rattle.formats.specs.Witnesses.{last_of, entry_from, entry_stride, tes
 ghost use Rattle.records.specs.Bounded.{listed};
 
 use crate::piece::Piece;
-use crate::pieces::{PIECES_FROM, piece_at, require, version_test};
+use crate::pieces::{PIECES_FROM, piece_at, version_test};
 use crate::stored::{row_at, rows_at};
 use records::limits::{
     MOST_CONDITIONS, MOST_ENTRIES, MOST_INNERS, MOST_PLACES, MOST_RESTRICTIONS, MOST_TESTED,
 };
 use records::{BoundedList, Heading, Inner, Place, PlanEntry, Shape, Written};
 use rows::bytes::{byte_at, word_at};
-use rows::{Answer, Fault, FaultKind, WrittenRow};
+use rows::{Answer, Fault, FaultKind, WrittenRow, check};
 
 // Where the fields stand that both kinds of pieces have.
 const KIND_FROM: usize = 0;
@@ -84,7 +84,7 @@ fn place_from(piece: Piece<'_>, shape: Shape, progress: &Noted) -> Result<Place,
     ensures { plainly place_record_of result ≡ giving (place_says shape (listed progress.now.places) (listed progress.now.inners) piece.entry.offset piece.entry.rest.now) (place_at shape piece.entry.rest.now) }
 {
     let places = progress.places.len();
-    require(
+    check(
         places < MOST_PLACES,
         piece.fault(FaultKind::WitnessCount, KIND_FROM),
     )?;
@@ -101,7 +101,7 @@ fn place_from(piece: Piece<'_>, shape: Shape, progress: &Noted) -> Result<Place,
     let last_from = plan_from + (TRANSITION_BYTES + stride) * tests;
     piece.is_long(last_from + TRANSITION_BYTES, FaultKind::WitnessLength)?;
     let inners = progress.inners.len();
-    require(
+    check(
         inners == 0,
         piece.fault(FaultKind::WitnessNumber, KIND_FROM),
     )?;
@@ -124,7 +124,7 @@ fn inner_from(piece: Piece<'_>, shape: Shape, progress: &Noted) -> Result<Inner,
     ensures { plainly inner_of result ≡ giving (inner_says shape (listed progress.now.inners) piece.entry.offset piece.entry.rest.now) (inner_at shape piece.entry.rest.now) }
 {
     let inners = progress.inners.len();
-    require(
+    check(
         inners < MOST_INNERS,
         piece.fault(FaultKind::WitnessCount, KIND_FROM),
     )?;

@@ -5,9 +5,8 @@ ghost use Rattle.formats.specs.Pieces.{rest_from, byte_at, fault_at, reach_says,
 ghost use Rattle.rows.specs.Bytes.{word_at};
 
 use crate::piece::{LENGTH_BYTES, Piece};
-use crate::pieces::require;
 use rows::bytes::{byte_at, word_at};
-use rows::{Answer, Fault, FaultKind};
+use rows::{Answer, Fault, FaultKind, check};
 
 impl Piece<'_> {
     // The fault at a byte of the rest, or at its end.
@@ -29,14 +28,14 @@ impl Piece<'_> {
     pub(crate) fn reaches(self, n: usize, kind: FaultKind) -> Answer
         ensures { result ≡ reach_says kind self.entry.offset self.entry.rest.now n }
     {
-        require(n <= self.rest.len(), Fault::at(kind, self.offset))
+        check(n <= self.rest.len(), Fault::at(kind, self.offset))
     }
 
     // Whether the rest has exactly so many bytes.
     pub(crate) fn is_long(self, n: usize, kind: FaultKind) -> Answer
         ensures { result ≡ long_says kind self.entry.offset self.entry.rest.now n }
     {
-        require(self.rest.len() == n, Fault::at(kind, self.offset))
+        check(self.rest.len() == n, Fault::at(kind, self.offset))
     }
 
     // The count in a byte of the rest, which lies within its limits.

@@ -7,13 +7,13 @@ ghost use Rattle.sequences.specs.StoredMade.{plainly};
 ghost use Rattle.sequences.specs.TransitionsHanded.{reading_of, starting, HandedOut};
 
 use crate::piece::{LENGTH_BYTES, Piece};
-use crate::pieces::{PIECES_FROM, piece_at, require};
+use crate::pieces::{PIECES_FROM, piece_at};
 use crate::stored::rows_at;
 use crate::transitions::TransitionReader;
 use records::limits::{MOST_GUARDS, MOST_TRANSITIONS};
 use records::{Heading, Transition};
 use rows::bytes::word_at;
-use rows::{Fault, FaultKind};
+use rows::{Fault, FaultKind, check};
 
 // Where the fields of a transition piece stand in its rest.
 const NUMBER_FROM: usize = 0;
@@ -53,7 +53,7 @@ impl<'a> TransitionReader<'a> {
         ensures { plainly transition_of result ≡ giving (transition_says self.now.shape self.now.room self.now.last piece.entry.offset piece.entry.rest.now) (transition_at self.now.shape piece.entry.rest.now) }
     {
         piece.reaches(GUARD_COUNT_FROM + 1, FaultKind::TableLength)?;
-        require(
+        check(
             0 < self.room,
             Fault::at(FaultKind::TableCount, piece.offset),
         )?;

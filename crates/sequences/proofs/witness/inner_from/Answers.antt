@@ -33,7 +33,7 @@ past_long c e =
     let inners = ap (λ (n : ℕ). check (ltb n most_inners) c.fault.result) c.len-inners.ensures.value ∙ ap (check (ltb (length (listed c.args.progress.now.inners)) most_inners)) c.fault.ensures in
     let o = given_ok _ _ _ c.in_ok-rows.ensures in
     let l = whole c.args.shape _ c.args.piece.rest.now _ _ _ _ (c.from-count.ensures ∙ o.1) c.from-amount.ensures c.over_values-values.ensures c.stride.ensures c.stride-2.ensures in
-    goes _ _ _ (c.in_ok-require.ensures ∙ inners)
+    goes _ _ _ (c.in_ok-check.ensures ∙ inners)
     (goes _ _ _ c.in_ok-reaches.ensures (goes _ _ _ o.0 (goes _ _ _ (c.in_ok-is_long.ensures ∙ ap (long_says WitnessLength c.args.piece.offset c.args.piece.rest.now) l) e)))
 
 -- the restriction rows and the choice expressions, by their places and counts in the definition
@@ -48,26 +48,26 @@ module _ (c : In_ok-is_long) where
       (from c.args.shape _ c.args.piece.rest.now _ _ _ _ (c.from-count.ensures ∙ (given_ok _ _ _ c.in_ok-rows.ensures).1) c.from-amount.ensures c.over_values-values.ensures c.stride.ensures c.stride-2.ensures)
       ∙ ap (f (over_values c.args.shape) (choices_from c.args.shape c.args.piece.rest.now)) c.from-amount.ensures
 
-pub returns-in_err-require : goal.returns-in_err-require
+pub returns-in_err-check : goal.returns-in_err-check
 unfolding inner_says
-returns-in_err-require c =
+returns-in_err-check c =
     let p = err_from_is_err_and c.from_residual.result c.from_residual.ensures.1 in
     let r = ap (λ (n : ℕ). check (ltb n most_inners) c.fault.result) c.len-inners.ensures.value ∙ ap (check (ltb (length (listed c.args.progress.now.inners)) most_inners)) c.fault.ensures in
-    rw (p.1, p.2) (given_fault _ _ _ (stops _ _ _ (c.in_err-require.ensures ∙ r)))
+    rw (p.1, p.2) (given_fault _ _ _ (stops _ _ _ (c.in_err-check.ensures ∙ r)))
 
 pub returns-in_err-reaches : goal.returns-in_err-reaches
 unfolding inner_says
 returns-in_err-reaches c =
     let p = err_from_is_err_and c.from_residual-in_err-reaches.result c.from_residual-in_err-reaches.ensures.1 in
     let r = ap (λ (n : ℕ). check (ltb n most_inners) c.fault.result) c.len-inners.ensures.value ∙ ap (check (ltb (length (listed c.args.progress.now.inners)) most_inners)) c.fault.ensures in
-    rw (p.1, p.2) (given_fault _ _ _ (goes _ _ _ (c.in_ok-require.ensures ∙ r) (stops _ _ _ c.in_err-reaches.ensures)))
+    rw (p.1, p.2) (given_fault _ _ _ (goes _ _ _ (c.in_ok-check.ensures ∙ r) (stops _ _ _ c.in_err-reaches.ensures)))
 
 pub returns-in_err-rows : goal.returns-in_err-rows
 unfolding inner_says
 returns-in_err-rows c =
     let p = err_from_is_err_and c.from_residual-in_err-rows.result c.from_residual-in_err-rows.ensures.1 in
     let r = ap (λ (n : ℕ). check (ltb n most_inners) c.fault.result) c.len-inners.ensures.value ∙ ap (check (ltb (length (listed c.args.progress.now.inners)) most_inners)) c.fault.ensures in
-    rw (p.1, p.2) (given_fault _ _ _ (goes _ _ _ (c.in_ok-require.ensures ∙ r) (goes _ _ _ c.in_ok-reaches.ensures (stops _ _ _ (given_err _ _ _ c.in_err-rows.ensures)))))
+    rw (p.1, p.2) (given_fault _ _ _ (goes _ _ _ (c.in_ok-check.ensures ∙ r) (goes _ _ _ c.in_ok-reaches.ensures (stops _ _ _ (given_err _ _ _ c.in_err-rows.ensures)))))
 
 pub returns-in_err-is_long : goal.returns-in_err-is_long
 unfolding inner_says
@@ -76,7 +76,7 @@ returns-in_err-is_long c =
     let r = ap (λ (n : ℕ). check (ltb n most_inners) c.fault.result) c.len-inners.ensures.value ∙ ap (check (ltb (length (listed c.args.progress.now.inners)) most_inners)) c.fault.ensures in
     let o = given_ok _ _ _ c.in_ok-rows.ensures in
     let l = whole c.args.shape _ c.args.piece.rest.now _ _ _ _ (c.from-count.ensures ∙ o.1) c.from-amount.ensures c.over_values-values.ensures c.stride.ensures c.stride-2.ensures in
-    rw (p.1, p.2) (given_fault _ _ _ (goes _ _ _ (c.in_ok-require.ensures ∙ r) (goes _ _ _ c.in_ok-reaches.ensures (goes _ _ _ o.0 (stops _ _ _ (c.in_err-is_long.ensures ∙ ap (long_says WitnessLength c.args.piece.offset c.args.piece.rest.now) l))))))
+    rw (p.1, p.2) (given_fault _ _ _ (goes _ _ _ (c.in_ok-check.ensures ∙ r) (goes _ _ _ c.in_ok-reaches.ensures (goes _ _ _ o.0 (stops _ _ _ (c.in_err-is_long.ensures ∙ ap (long_says WitnessLength c.args.piece.offset c.args.piece.rest.now) l))))))
 
 pub returns-in_err-number : goal.returns-in_err-number
 unfolding inner_says

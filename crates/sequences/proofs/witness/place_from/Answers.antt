@@ -44,7 +44,7 @@ past_plan_count c e =
     let places = ap (λ (n : ℕ). check (ltb n most_places) c.fault.result) c.len-places.ensures.value ∙ ap (check (ltb (length (listed c.args.progress.now.places)) most_places)) c.fault.ensures in
     let rows = given_ok _ _ _ c.in_ok-rows.ensures in
     let u = plan_count c.args.shape _ c.args.piece.rest.now _ _ (c.from-count.ensures ∙ rows.1) c.over_values-plain.ensures c.stride-stride.ensures in
-    goes _ _ _ (c.in_ok-require.ensures ∙ places)
+    goes _ _ _ (c.in_ok-check.ensures ∙ places)
     (goes _ _ _ c.in_ok-reaches.ensures
     (goes _ _ _ rows.0 (goes _ _ _ (c.in_ok-reaches-2.ensures ∙ ap (λ (k : ℕ). reach_says WitnessLength c.args.piece.offset c.args.piece.rest.now (k + 1)) u) e)))
 
@@ -67,7 +67,7 @@ past_number : {x r : Said} (c : In_ok-number) → x ≡ r → x ≡ (check (eqb 
 past_number c e =
     let inners = ap (λ (n : ℕ). check (eqb n 0) c.fault-2.result) c.len-inners.ensures.value ∙ ap (check (eqb (length (listed c.args.progress.now.inners)) 0)) c.fault-2.ensures in
     let before = ap (above_says WitnessNumber c.args.piece.offset c.args.piece.rest.now number_from) c.last_of-before.ensures in
-    goes _ _ _ (c.in_ok-require-2.ensures ∙ inners) (goes _ _ _ ((given_ok _ _ _ c.in_ok-number.ensures).0 ∙ before) e)
+    goes _ _ _ (c.in_ok-check-2.ensures ∙ inners) (goes _ _ _ ((given_ok _ _ _ c.in_ok-number.ensures).0 ∙ before) e)
 
 -- the condition rows and the entries with a test, by their shape, places and counts in the definition
 module _ (c : In_ok-is_long) where
@@ -81,26 +81,26 @@ module _ (c : In_ok-is_long) where
       ap (λ (k : ℕ). f k (c.from-tests.result - 1)) (begins c.args.shape _ c.args.piece.rest.now _ _ n c.over_values-plain.ensures c.stride-stride.ensures _ m)
       ∙ ap (f (plan_from c.args.shape c.args.piece.rest.now)) (tests c.args.shape _ c.args.piece.rest.now _ _ n c.over_values-plain.ensures c.stride-stride.ensures _ m)
 
-pub returns-in_err-require : goal.returns-in_err-require
+pub returns-in_err-check : goal.returns-in_err-check
 unfolding place_says
-returns-in_err-require c =
+returns-in_err-check c =
     let p = err_from_is_err_and c.from_residual.result c.from_residual.ensures.1 in
     let r = ap (λ (n : ℕ). check (ltb n most_places) c.fault.result) c.len-places.ensures.value ∙ ap (check (ltb (length (listed c.args.progress.now.places)) most_places)) c.fault.ensures in
-    rw (p.1, p.2) (given_fault _ _ _ (stops _ _ _ (c.in_err-require.ensures ∙ r)))
+    rw (p.1, p.2) (given_fault _ _ _ (stops _ _ _ (c.in_err-check.ensures ∙ r)))
 
 pub returns-in_err-reaches : goal.returns-in_err-reaches
 unfolding place_says
 returns-in_err-reaches c =
     let p = err_from_is_err_and c.from_residual-in_err-reaches.result c.from_residual-in_err-reaches.ensures.1 in
     let r = ap (λ (n : ℕ). check (ltb n most_places) c.fault.result) c.len-places.ensures.value ∙ ap (check (ltb (length (listed c.args.progress.now.places)) most_places)) c.fault.ensures in
-    rw (p.1, p.2) (given_fault _ _ _ (goes _ _ _ (c.in_ok-require.ensures ∙ r) (stops _ _ _ c.in_err-reaches.ensures)))
+    rw (p.1, p.2) (given_fault _ _ _ (goes _ _ _ (c.in_ok-check.ensures ∙ r) (stops _ _ _ c.in_err-reaches.ensures)))
 
 pub returns-in_err-rows : goal.returns-in_err-rows
 unfolding place_says
 returns-in_err-rows c =
     let p = err_from_is_err_and c.from_residual-in_err-rows.result c.from_residual-in_err-rows.ensures.1 in
     let r = ap (λ (n : ℕ). check (ltb n most_places) c.fault.result) c.len-places.ensures.value ∙ ap (check (ltb (length (listed c.args.progress.now.places)) most_places)) c.fault.ensures in
-    rw (p.1, p.2) (given_fault _ _ _ (goes _ _ _ (c.in_ok-require.ensures ∙ r) (goes _ _ _ c.in_ok-reaches.ensures (stops _ _ _ (given_err _ _ _ c.in_err-rows.ensures)))))
+    rw (p.1, p.2) (given_fault _ _ _ (goes _ _ _ (c.in_ok-check.ensures ∙ r) (goes _ _ _ c.in_ok-reaches.ensures (stops _ _ _ (given_err _ _ _ c.in_err-rows.ensures)))))
 
 pub returns-in_err-reaches-2 : goal.returns-in_err-reaches-2
 unfolding place_says
@@ -109,7 +109,7 @@ returns-in_err-reaches-2 c =
     let r = ap (λ (n : ℕ). check (ltb n most_places) c.fault.result) c.len-places.ensures.value ∙ ap (check (ltb (length (listed c.args.progress.now.places)) most_places)) c.fault.ensures in
     let o = given_ok _ _ _ c.in_ok-rows.ensures in
     let u = plan_count c.args.shape _ c.args.piece.rest.now _ _ (c.from-count.ensures ∙ o.1) c.over_values-plain.ensures c.stride-stride.ensures in
-    rw (p.1, p.2) (given_fault _ _ _ (goes _ _ _ (c.in_ok-require.ensures ∙ r) (goes _ _ _ c.in_ok-reaches.ensures (goes _ _ _ o.0 (stops _ _ _ (c.in_err-reaches-2.ensures ∙ ap (λ (k : ℕ). reach_says WitnessLength c.args.piece.offset c.args.piece.rest.now (k + 1)) u))))))
+    rw (p.1, p.2) (given_fault _ _ _ (goes _ _ _ (c.in_ok-check.ensures ∙ r) (goes _ _ _ c.in_ok-reaches.ensures (goes _ _ _ o.0 (stops _ _ _ (c.in_err-reaches-2.ensures ∙ ap (λ (k : ℕ). reach_says WitnessLength c.args.piece.offset c.args.piece.rest.now (k + 1)) u))))))
 
 pub returns-in_err-entries : goal.returns-in_err-entries
 unfolding place_says
@@ -130,13 +130,13 @@ returns-in_err-is_long c =
     let l = last c.args.shape _ c.args.piece.rest.now _ _ n c.over_values-plain.ensures c.stride-stride.ensures _ (c.from-tests.ensures ∙ o.1) in
     rw (p.1, p.2) (given_fault _ _ _ (past_plan_count d (goes _ _ _ (o.0 ∙ ap (λ (k : ℕ). count_says WitnessCount c.args.piece.offset c.args.piece.rest.now k 1 most_entries) u) (stops _ _ _ (c.in_err-is_long.ensures ∙ ap (λ (k : ℕ). long_says WitnessLength c.args.piece.offset c.args.piece.rest.now (k + 2)) l)))))
 
-pub returns-in_err-require-2 : goal.returns-in_err-require-2
+pub returns-in_err-check-2 : goal.returns-in_err-check-2
 unfolding place_says
-returns-in_err-require-2 c =
-    let p = err_from_is_err_and c.from_residual-in_err-require-2.result c.from_residual-in_err-require-2.ensures.1 in
-    let at = goal.at.returns-in_err-require-2 c in
+returns-in_err-check-2 c =
+    let p = err_from_is_err_and c.from_residual-in_err-check-2.result c.from_residual-in_err-check-2.ensures.1 in
+    let at = goal.at.returns-in_err-check-2 c in
     let h = ap (λ (n : ℕ). check (eqb n 0) c.fault-2.result) c.len-inners.ensures.value ∙ ap (check (eqb (length (listed c.args.progress.now.inners)) 0)) c.fault-2.ensures in
-    rw (p.1, p.2) (given_fault _ _ _ (past_plan_count at.In_ok-reaches-2 (past_long at.In_ok-is_long (stops _ _ _ (c.in_err-require-2.ensures ∙ h)))))
+    rw (p.1, p.2) (given_fault _ _ _ (past_plan_count at.In_ok-reaches-2 (past_long at.In_ok-is_long (stops _ _ _ (c.in_err-check-2.ensures ∙ h)))))
 
 pub returns-in_err-number : goal.returns-in_err-number
 unfolding place_says
@@ -145,7 +145,7 @@ returns-in_err-number c =
     let at = goal.at.returns-in_err-number c in
     let h = ap (λ (n : ℕ). check (eqb n 0) c.fault-2.result) c.len-inners.ensures.value ∙ ap (check (eqb (length (listed c.args.progress.now.inners)) 0)) c.fault-2.ensures in
     let b = ap (above_says WitnessNumber c.args.piece.offset c.args.piece.rest.now number_from) c.last_of-before.ensures in
-    rw (p.1, p.2) (given_fault _ _ _ (past_plan_count at.In_ok-reaches-2 (past_long at.In_ok-is_long (goes _ _ _ (c.in_ok-require-2.ensures ∙ h) (stops _ _ _ (given_err _ _ _ c.in_err-number.ensures ∙ b))))))
+    rw (p.1, p.2) (given_fault _ _ _ (past_plan_count at.In_ok-reaches-2 (past_long at.In_ok-is_long (goes _ _ _ (c.in_ok-check-2.ensures ∙ h) (stops _ _ _ (given_err _ _ _ c.in_err-number.ensures ∙ b))))))
 
 pub returns-in_err-condition : goal.returns-in_err-condition
 unfolding place_says

@@ -58,20 +58,20 @@ tested c =
     ap (λ (b : Bool). check b c.fault.result) (c.entry_fits-fits.ensures ∙ ap (entry_fits n c.word_at-place.result) c.word_at-number.ensures)
     ∙ ap (check (entry_fits n c.word_at-place.result (word_at c.args.piece.rest.now (rows_from + c.stride-stride.result * c.from-rows.result + 1 + (2 + c.stride-stride.result) * c.loop-e.e)))) c.fault.ensures
 
-pub returns-in_err-require : goal.returns-in_err-require
+pub returns-in_err-check : goal.returns-in_err-check
 unfolding tests
-returns-in_err-require c =
+returns-in_err-check c =
     let p = err_from_is_err_and c.from_residual.result c.from_residual.ensures.1 in
-    let d = (goal.at.returns-in_err-require c).After-word_at-place in
-    let t = tested (goal.at.returns-in_err-require c).After-fault in
-    rw (p.1, p.2) (each_stops (tests d) c.from-count.result c.loop-e.e _ c.loop-e-test.true c.loop-e.invariant (c.in_err-require.ensures ∙ t) ∙ plan d)
+    let d = (goal.at.returns-in_err-check c).After-word_at-place in
+    let t = tested (goal.at.returns-in_err-check c).After-fault in
+    rw (p.1, p.2) (each_stops (tests d) c.from-count.result c.loop-e.e _ c.loop-e-test.true c.loop-e.invariant (c.in_err-check.ensures ∙ t) ∙ plan d)
 
 pub loop-e-preserved : goal.loop-e-preserved
 unfolding tests
 loop-e-preserved c =
     let d = (goal.at.loop-e-preserved c).After-word_at-place in
     let t = tested (goal.at.loop-e-preserved c).After-fault in
-    each_more (tests d) c.loop-e.e c.loop-e.invariant (c.in_ok-require.ensures ∙ t)
+    each_more (tests d) c.loop-e.e c.loop-e.invariant (c.in_ok-check.ensures ∙ t)
 
 pub returns : goal.returns
 unfolding tests

@@ -32,7 +32,7 @@ past_long c e =
     let o = given_ok _ _ _ c.in_ok-rows.ensures in
     let l = whole c.args.self.now.shape c.over_values-plain.result c.args.piece.rest.now _ _ _ _ (c.from-count.ensures ∙ o.1) c.from-values.ensures c.over_values-plain.ensures c.stride.ensures c.stride-2.ensures in
     goes _ _ _ c.in_ok-reaches.ensures
-    (goes _ _ _ (c.in_ok-require.ensures ∙ ap (check (ltb 0 c.args.self.now.room)) c.at.ensures)
+    (goes _ _ _ (c.in_ok-check.ensures ∙ ap (check (ltb 0 c.args.self.now.room)) c.at.ensures)
     (goes _ _ _ o.0 (goes _ _ _ (c.in_ok-is_long.ensures ∙ ap (long_says TableLength c.args.piece.offset c.args.piece.rest.now) l) e)))
 
 pub returns-in_err-reaches : goal.returns-in_err-reaches
@@ -41,17 +41,17 @@ returns-in_err-reaches c =
     let p = err_from_is_err_and c.from_residual.result c.from_residual.ensures.1 in
     rw (p.1, p.2) (given_fault _ _ _ (stops _ _ _ c.in_err-reaches.ensures))
 
-pub returns-in_err-require : goal.returns-in_err-require
+pub returns-in_err-check : goal.returns-in_err-check
 unfolding transition_says
-returns-in_err-require c =
-    let p = err_from_is_err_and c.from_residual-in_err-require.result c.from_residual-in_err-require.ensures.1 in
-    rw (p.1, p.2) (given_fault _ _ _ (goes _ _ _ c.in_ok-reaches.ensures (stops _ _ _ (c.in_err-require.ensures ∙ ap (check (ltb 0 c.args.self.now.room)) c.at.ensures))))
+returns-in_err-check c =
+    let p = err_from_is_err_and c.from_residual-in_err-check.result c.from_residual-in_err-check.ensures.1 in
+    rw (p.1, p.2) (given_fault _ _ _ (goes _ _ _ c.in_ok-reaches.ensures (stops _ _ _ (c.in_err-check.ensures ∙ ap (check (ltb 0 c.args.self.now.room)) c.at.ensures))))
 
 pub returns-in_err-rows : goal.returns-in_err-rows
 unfolding transition_says
 returns-in_err-rows c =
     let p = err_from_is_err_and c.from_residual-in_err-rows.result c.from_residual-in_err-rows.ensures.1 in
-    rw (p.1, p.2) (given_fault _ _ _ (goes _ _ _ c.in_ok-reaches.ensures (goes _ _ _ (c.in_ok-require.ensures ∙ ap (check (ltb 0 c.args.self.now.room)) c.at.ensures) (stops _ _ _ (given_err _ _ _ c.in_err-rows.ensures)))))
+    rw (p.1, p.2) (given_fault _ _ _ (goes _ _ _ c.in_ok-reaches.ensures (goes _ _ _ (c.in_ok-check.ensures ∙ ap (check (ltb 0 c.args.self.now.room)) c.at.ensures) (stops _ _ _ (given_err _ _ _ c.in_err-rows.ensures)))))
 
 pub returns-in_err-is_long : goal.returns-in_err-is_long
 unfolding transition_says
@@ -59,7 +59,7 @@ returns-in_err-is_long c =
     let p = err_from_is_err_and c.from_residual-in_err-is_long.result c.from_residual-in_err-is_long.ensures.1 in
     let o = given_ok _ _ _ c.in_ok-rows.ensures in
     let l = whole c.args.self.now.shape c.over_values-plain.result c.args.piece.rest.now _ _ _ _ (c.from-count.ensures ∙ o.1) c.from-values.ensures c.over_values-plain.ensures c.stride.ensures c.stride-2.ensures in
-    rw (p.1, p.2) (given_fault _ _ _ (goes _ _ _ c.in_ok-reaches.ensures (goes _ _ _ (c.in_ok-require.ensures ∙ ap (check (ltb 0 c.args.self.now.room)) c.at.ensures) (goes _ _ _ o.0 (stops _ _ _ (c.in_err-is_long.ensures ∙ ap (long_says TableLength c.args.piece.offset c.args.piece.rest.now) l))))))
+    rw (p.1, p.2) (given_fault _ _ _ (goes _ _ _ c.in_ok-reaches.ensures (goes _ _ _ (c.in_ok-check.ensures ∙ ap (check (ltb 0 c.args.self.now.room)) c.at.ensures) (goes _ _ _ o.0 (stops _ _ _ (c.in_err-is_long.ensures ∙ ap (long_says TableLength c.args.piece.offset c.args.piece.rest.now) l))))))
 
 pub returns-in_err-number : goal.returns-in_err-number
 unfolding transition_says
