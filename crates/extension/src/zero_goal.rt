@@ -26,7 +26,8 @@ fn is_used(coefficient: i64) -> bool
 
 // The lowest column in which the goal's is not.
 fn first_used(goal: &Numbers) -> Option<usize>
-    ensures { IsFirst (uses goal.now) columns result }
+    ensures value { result ≡ first_below (uses goal.now) columns }
+    ensures first { IsFirst (uses goal.now) columns result }
 {
     goal.coefficients
         .iter()
@@ -34,7 +35,6 @@ fn first_used(goal: &Numbers) -> Option<usize>
 }
 
 // Whether no column is used; the first that is one is the fault.
-#[tactic(auto, using(rows::proofs::First::is_first))]
 fn columns_test(goal: &Numbers) -> Answer
     ensures { result ≡ unless_found ColumnDiffers (first_below (uses goal.now) columns) }
 {
