@@ -15,7 +15,7 @@ case "$1" in
 2)  # pairs of places that share six lines or more, in src/ alone
     # ('duplicates' knows no .rt files, so it reads copies that are named .rs)
     copies=$(mktemp -d)
-    for file in $(find crates -path '*/src/*' -name '*.rt'); do
+    for file in $(find crates/*/src -name '*.rt'); do
         mkdir -p "$copies/$(dirname "$file")" && cp "$file" "$copies/${file%.rt}.rs"
     done
     duplicates --repo "$copies/crates" --most 200 --seconds 60 | grep -E '^D[0-9]+ '
