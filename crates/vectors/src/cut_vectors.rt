@@ -204,27 +204,7 @@ fn earlier_fault_wins(rt: HostRuntime) -> Result<(), Fail> {
     let mut none: [Numbers; 0] = [];
     let mut free = [first(0, 0)];
     let goal = first(1, 1);
-    expect(
-        &rt,
-        &cut(),
-        &mut sheet,
-        claim(33, &goal, &[]),
-        fault(FaultKind::TooManyFacts, 0, 0, 0),
-    )?;
-    expect(
-        &rt,
-        &cut(),
-        &mut sheet,
-        claim(1, &only(2, over), &[]),
-        fault(FaultKind::RowNumberTooLarge, 0, 0, 3),
-    )?;
-    expect(
-        &rt,
-        &cut(),
-        &mut sheet,
-        claim(0, &only(2, over), &[]),
-        fault(FaultKind::RowNumberTooLarge, 0, 0, 2),
-    )?;
+    expect_opening_faults(&rt, &cut(), &[])?;
     expect(
         &rt,
         &cut(),
