@@ -44,12 +44,18 @@ fn handed_down(rt: HostRuntime) -> Result<(), Fail> {
     Ok(())
 }
 
-// Every layer adds a fact: 39 + 7 + 39 bytes lie before the last certificate.
+// The sheet's rows and the answer where every layer adds a fact: 39 + 7 + 39 bytes lie before the last certificate.
+fn rooms() -> [(usize, Answer); 4] {
+    [
+        (4, fault(FaultKind::CertificateLength, 85, 3, 0)),
+        (3, fault(FaultKind::NoRoomForFact, 46, 2, 0)),
+        (2, fault(FaultKind::NoRoomForFact, 39, 1, 0)),
+        (1, fault(FaultKind::NoRoomForFact, 0, 0, 0)),
+    ]
+}
+
 #[test]
 fn facts_added_in_each_layer(rt: HostRuntime) -> Result<(), Fail> {
-    let mut one = [first(1, 1); 1];
-    let mut two = [first(1, 1); 2];
-    let mut three = [first(1, 1); 3];
     let mut sheet = [first(1, 1); 4];
     let goal = first(1, 1);
     let mut bytes = [0; 90];
@@ -58,34 +64,16 @@ fn facts_added_in_each_layer(rt: HostRuntime) -> Result<(), Fail> {
     bytes[39] = 1;
     bytes[41] = 1;
     bytes[46] = 1;
-    expect(
-        &rt,
-        &stack(),
-        &mut sheet,
-        claim(1, &goal, &bytes),
-        fault(FaultKind::CertificateLength, 85, 3, 0),
-    )?;
-    expect(
-        &rt,
-        &stack(),
-        &mut three,
-        claim(1, &goal, &bytes),
-        fault(FaultKind::NoRoomForFact, 46, 2, 0),
-    )?;
-    expect(
-        &rt,
-        &stack(),
-        &mut two,
-        claim(1, &goal, &bytes),
-        fault(FaultKind::NoRoomForFact, 39, 1, 0),
-    )?;
-    expect(
-        &rt,
-        &stack(),
-        &mut one,
-        claim(1, &goal, &bytes),
-        fault(FaultKind::NoRoomForFact, 0, 0, 0),
-    )?;
+    for (rows, answer) in rooms() {
+        assert!(rt; rows <= 4);
+        expect(
+            &rt,
+            &stack(),
+            &mut sheet[0..rows],
+            claim(1, &goal, &bytes),
+            answer,
+        )?;
+    }
     bytes[43] = 1;
     bytes[42] = 255;
     expect(
