@@ -20,6 +20,7 @@ mod tests {
     use methods::{Claim, LookUp, ask};
     use rows::{Answer, Fault, FaultKind, Numbers};
 
+    // `row`, `fault` and `claim` stand in `vectors` too: a crate's tests are no part of what others can use.
     // A row with one coefficient, that of the first state value.
     fn row(first: i64, bound: i64) -> Numbers {
         Numbers {

@@ -3,6 +3,7 @@ use std::alloc::Global;
 use std::test::Fail;
 
 // How many values and choices: the fewest, a few, and the most.
+// Counts are tuples and no structs: with named fields no row of the tables of vectors would fit on a line.
 pub const TINY: (u8, u8) = (1, 0);
 
 pub const SMALL: (u8, u8) = (2, 1);
@@ -12,20 +13,20 @@ pub const LARGE: (u8, u8) = (6, 2);
 // The offset of a byte that is changed, and the byte that is put there.
 pub type Change = (usize, u8);
 
-// Up to two bytes that are changed, and the number of bytes then.
+// The bytes that are changed, and the number of bytes then, if it is another.
 #[derive(Clone, Copy)]
 pub struct Changes {
-    pub bytes: [Change; 2],
-    pub length: usize,
+    pub bytes: &'static [Change],
+    pub length: Option<usize>,
 }
 
 // No change of a byte, and the length of the bytes as they were built.
-pub const NONE: Change = (usize::MAX, 0);
+pub const NONE: &[Change] = &[];
 
-pub const WHOLE: usize = usize::MAX;
+pub const WHOLE: Option<usize> = None;
 
 pub const UNCHANGED: Changes = Changes {
-    bytes: [NONE, NONE],
+    bytes: NONE,
     length: WHOLE,
 };
 
@@ -126,24 +127,13 @@ pub fn witness(heap: Global, built: Witness) -> Result<Vec<u8>, Fail> {
     Ok(bytes)
 }
 
-// Puts a byte in the place of another.
-fn set(bytes: &mut Vec<u8>, at: usize, byte: u8) -> Result<(), Fail> {
-    let Some(old) = bytes.get_mut(at) else {
-        return Err(Fail::new("outside the bytes"));
-    };
-    *old = byte;
-    Ok(())
-}
-
-// Changes up to two bytes, and then the number of bytes: zeros fill it up.
+// Changes the bytes one after the other, and then the number of bytes: zeros fill it up.
 pub fn change(bytes: &mut Vec<u8>, changes: Changes) -> Result<(), Fail> {
-    for (at, byte) in changes.bytes {
-        if at != usize::MAX {
-            set(bytes, at, byte)?;
-        }
+    for &(at, byte) in changes.bytes {
+        *bytes.get_mut(at).ok_or("outside the bytes")? = byte;
     }
-    if changes.length != WHOLE {
-        bytes.resize(changes.length, 0)?;
+    if let Some(length) = changes.length {
+        bytes.resize(length, 0)?;
     }
     Ok(())
 }

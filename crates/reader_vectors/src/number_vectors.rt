@@ -17,19 +17,14 @@ const NUMBERS: [(i32, bool); 6] = [
 ];
 
 // Puts a number at an offset.
-fn put_at(bytes: &mut Vec<u8>, at: usize, number: i32) -> Result<(), Fail> {
-    for (i, byte) in number.to_be_bytes().into_iter().enumerate() {
-        let changes = Changes {
-            bytes: [(at.saturating_add(i), byte), NONE],
-            length: WHOLE,
-        };
-        change(bytes, changes)?;
-    }
+fn put_at(bytes: &mut [u8], at: usize, number: i32) -> Result<(), Fail> {
+    let field = bytes.get_mut(at..).and_then(|rest| rest.first_chunk_mut());
+    *field.ok_or("outside the bytes")? = number.to_be_bytes();
     Ok(())
 }
 
 // Each of the numbers, put at an offset of a table with one transition.
-fn numbers_in_table(rt: &impl Abort, bytes: &mut Vec<u8>, at: usize) -> Result<(), Fail> {
+fn numbers_in_table(rt: &impl Abort, bytes: &mut [u8], at: usize) -> Result<(), Fail> {
     for (number, taken) in NUMBERS {
         put_at(bytes, at, number)?;
         let refused = (FaultKind::TableWritten, at);
@@ -54,9 +49,10 @@ fn numbers_of_table(rt: &impl Abort, heap: Global, values: u8, choices: u8) -> R
 
 #[test]
 fn numbers_of_tables(rt: HostRuntime) -> Result<(), Fail> {
-    // One number for both counts: a loop for each would be two in one function.
-    for i in 0..18 {
-        numbers_of_table(&rt, rt.alloc(), i / 3 + 1, i % 3)?;
+    for values in 1..=6 {
+        for choices in 0..=2 {
+            numbers_of_table(&rt, rt.alloc(), values, choices)?;
+        }
     }
     Ok(())
 }
@@ -65,7 +61,7 @@ fn numbers_of_tables(rt: HostRuntime) -> Result<(), Fail> {
 fn numbers_in_witness(
     rt: &impl Abort,
     against: &[u8],
-    bytes: &mut Vec<u8>,
+    bytes: &mut [u8],
     at: usize,
 ) -> Result<(), Fail> {
     for (number, taken) in NUMBERS {
@@ -101,9 +97,10 @@ fn numbers_of_witness(rt: &impl Abort, heap: Global, values: u8, choices: u8) ->
 
 #[test]
 fn numbers_of_witnesses(rt: HostRuntime) -> Result<(), Fail> {
-    // One number for both counts: a loop for each would be two in one function.
-    for i in 0..18 {
-        numbers_of_witness(&rt, rt.alloc(), i / 3 + 1, i % 3)?;
+    for values in 1..=6 {
+        for choices in 0..=2 {
+            numbers_of_witness(&rt, rt.alloc(), values, choices)?;
+        }
     }
     Ok(())
 }

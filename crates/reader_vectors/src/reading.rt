@@ -22,6 +22,7 @@ pub fn fault_of<T: Drop>(expected: Expected<T>) -> Option<Fault> {
 }
 
 // The number of the records that memory is filled with; no vector has it.
+// `tables` has blank records of its own, but inside that crate, and with the number 0.
 const UNREAD: u16 = 999;
 
 pub fn unread_transition() -> Transition {
@@ -57,18 +58,40 @@ pub fn unread_inner() -> Inner {
 // What reading leaves behind: the fault, the number of records, and whether the unread record is among them.
 type Left<T, U> = (Option<Fault>, T, U);
 
-// Memory for the records of every table and every witness.
-pub const TABLE_MEMORY: (usize, usize, usize) = (24, 12, 24);
+// Memory for so many transitions, places and inner transitions.
+#[derive(Clone, Copy, PartialEq, Eq)]
+pub struct TableMemory {
+    pub transitions: usize,
+    pub places: usize,
+    pub inners: usize,
+}
 
-pub const WITNESS_MEMORY: (usize, usize) = (12, 24);
+// Memory for so many places and inner transitions.
+#[derive(Clone, Copy, PartialEq, Eq)]
+pub struct WitnessMemory {
+    pub places: usize,
+    pub inners: usize,
+}
+
+// Memory for the records of every table and every witness.
+pub const TABLE_MEMORY: TableMemory = TableMemory {
+    transitions: 24,
+    places: 12,
+    inners: 24,
+};
+
+pub const WITNESS_MEMORY: WitnessMemory = WitnessMemory {
+    places: 12,
+    inners: 24,
+};
 
 // Reads a table into a register that holds an unread record, with memory for so many transitions, at most 25, places and
 // inner transitions.
-fn left_by_table(bytes: &[u8], memory: (usize, usize, usize)) -> Left<usize, bool> {
+fn left_by_table(bytes: &[u8], memory: TableMemory) -> Left<usize, bool> {
     let mut records = [unread_transition(); 25];
-    let mut register = Register::new(&mut records[0..memory.0.min(25)]);
+    let mut register = Register::new(&mut records[0..memory.transitions.min(25)]);
     register.push(unread_transition());
-    let fault = read_table(bytes, &mut register, memory.1, memory.2).err();
+    let fault = read_table(bytes, &mut register, memory.places, memory.inners).err();
     (fault, register.len(), register.find(UNREAD).is_some())
 }
 
@@ -78,14 +101,14 @@ pub fn expect_table(
     rt: &impl Abort,
     vector: &impl Debug,
     bytes: &[u8],
-    memory: (usize, usize, usize),
+    memory: TableMemory,
     expected: Expected<usize>,
 ) -> Result<(), Fail> {
     let fault = fault_of(expected);
     if memory == TABLE_MEMORY {
         assert_eq!(rt; test_table(bytes).err(), fault, "vector {vector:?}");
     }
-    let before = memory.0.min(1);
+    let before = memory.transitions.min(1);
     let kept = expected.is_err() && before == 1;
     let left = (fault, expected.unwrap_or(before), kept);
     assert_eq!(rt; left_by_table(bytes, memory), left, "vector {vector:?}");
@@ -99,7 +122,7 @@ pub fn expect_built_table(
     heap: Global,
     built: Table,
     changes: Changes,
-    memory: (usize, usize, usize),
+    memory: TableMemory,
     expected: Expected<usize>,
 ) -> Result<(), Fail> {
     let mut bytes = table(heap, built)?;
@@ -107,41 +130,35 @@ pub fn expect_built_table(
     expect_table(rt, vector, &bytes, memory, expected)
 }
 
-// Tests a witness against a table.
-fn told_by_test(table: &[u8], bytes: &[u8]) -> Result<Option<Fault>, Fault> {
+// Reads a table, and does with it what is to be done.
+pub fn with_table<T, F: FnOnce(TableView<'_>) -> T>(table: &[u8], work: F) -> Result<T, Fault>
+    requires { F.IsAlwaysCallable work }
+{
     let mut records = [unread_transition(); 24];
     let mut transitions = Register::new(&mut records);
     let heading = read_table(table, &mut transitions, 12, 24)?;
-    let view = TableView {
+    Ok(work(TableView {
         heading: &heading,
         transitions: transitions.as_slice(),
-    };
-    Ok(test_witness(bytes, view).err())
+    }))
 }
 
-// Reads a witness against a table into registers that hold an unread record each, with memory for so many places, at
-// most 13, and inner transitions, at most 25.
+// Reads a witness into registers that hold an unread record each, with memory for so many places, at most 13, and inner
+// transitions, at most 25.
 fn left_by_witness(
-    table: &[u8],
     bytes: &[u8],
-    memory: (usize, usize),
-) -> Result<Left<(usize, usize), (bool, bool)>, Fault> {
-    let mut transition_records = [unread_transition(); 24];
-    let mut transitions = Register::new(&mut transition_records);
-    let heading = read_table(table, &mut transitions, 12, 24)?;
+    view: TableView<'_>,
+    memory: WitnessMemory,
+) -> Left<(usize, usize), (bool, bool)> {
     let mut place_records = [unread_place(); 13];
     let mut inner_records = [unread_inner(); 25];
-    let mut places = Register::new(&mut place_records[0..memory.0.min(13)]);
-    let mut inners = Register::new(&mut inner_records[0..memory.1.min(25)]);
+    let mut places = Register::new(&mut place_records[0..memory.places.min(13)]);
+    let mut inners = Register::new(&mut inner_records[0..memory.inners.min(25)]);
     places.push(unread_place());
     inners.push(unread_inner());
-    let view = TableView {
-        heading: &heading,
-        transitions: transitions.as_slice(),
-    };
     let fault = read_witness(bytes, view, &mut places, &mut inners).err();
     let kept = (places.find(UNREAD).is_some(), inners.find(UNREAD).is_some());
-    Ok((fault, (places.len(), inners.len()), kept))
+    (fault, (places.len(), inners.len()), kept)
 }
 
 // Reading a witness against a table tells this, and so does testing it, where the memory is enough. After a refusal the
@@ -151,22 +168,20 @@ pub fn expect_witness(
     vector: &impl Debug,
     table: &[u8],
     bytes: &[u8],
-    memory: (usize, usize),
+    memory: WitnessMemory,
     expected: Expected<(usize, usize)>,
 ) -> Result<(), Fail> {
     let fault = fault_of(expected);
     if memory == WITNESS_MEMORY {
-        assert_eq!(rt; told_by_test(table, bytes), Ok(fault), "vector {vector:?}");
+        let told = with_table(table, |view| test_witness(bytes, view).err());
+        assert_eq!(rt; told, Ok(fault), "vector {vector:?}");
     }
-    let before = (memory.0.min(1), memory.1.min(1));
+    let before = (memory.places.min(1), memory.inners.min(1));
     let refused = expected.is_err();
     let kept = (refused && before.0 == 1, refused && before.1 == 1);
     let left = (fault, expected.unwrap_or(before), kept);
-    assert_eq!(rt;
-        left_by_witness(table, bytes, memory),
-        Ok(left),
-        "vector {vector:?}"
-    );
+    let found = with_table(table, |view| left_by_witness(bytes, view, memory));
+    assert_eq!(rt; found, Ok(left), "vector {vector:?}");
     Ok(())
 }
 
@@ -177,7 +192,7 @@ pub fn expect_built_witness(
     heap: Global,
     built: Witness,
     changes: Changes,
-    memory: (usize, usize),
+    memory: WitnessMemory,
     expected: Expected<(usize, usize)>,
 ) -> Result<(), Fail> {
     let against = table(heap, (built.0, 24, (0, 0)))?;

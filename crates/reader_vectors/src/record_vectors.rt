@@ -10,10 +10,11 @@ use std::test::Fail;
 // A row or an expression holds the numbers that stand from an offset: those of the values, of the choices, the bound.
 fn expect_numbers(
     rt: &impl Abort,
-    found: &Numbers,
+    found: Option<Numbers>,
     shape: (u8, u8),
     at: usize,
 ) -> Result<(), Fail> {
+    let found = found.ok_or("no numbers")?;
     let values = usize::from(shape.0);
     let choices = usize::from(shape.1);
     for (column, &coefficient) in found.coefficients.iter().enumerate() {
@@ -31,32 +32,17 @@ fn expect_numbers(
     Ok(())
 }
 
-fn expect_row(
-    rt: &impl Abort,
-    found: Option<WrittenRow>,
-    shape: (u8, u8),
-    at: usize,
-) -> Result<(), Fail> {
-    let Some(row) = found else {
-        return Err(Fail::new("no row"));
-    };
-    expect_numbers(rt, row.numbers(), shape, at)
+// The numbers of the last row.
+fn last_row(rows: &[WrittenRow]) -> Option<Numbers> {
+    rows.last().map(|row| *row.numbers())
 }
 
-fn expect_expression(
-    rt: &impl Abort,
-    found: Option<Expression>,
-    shape: (u8, u8),
-    at: usize,
-) -> Result<(), Fail> {
-    let Some(expression) = found else {
-        return Err(Fail::new("no expression"));
-    };
-    let numbers = Numbers {
+// The numbers of the last expression; its constant stands where a row has its bound.
+fn last_expression(expressions: &[Expression]) -> Option<Numbers> {
+    expressions.last().map(|expression| Numbers {
         coefficients: *expression.coefficients(),
         bound: expression.constant(),
-    };
-    expect_numbers(rt, &numbers, shape, at)
+    })
 }
 
 // Reads a table, and hands out its heading and its last transition.
@@ -89,8 +75,8 @@ fn expect_heading(
         (found.start, found.initial.len()),
         (1, usize::from(initial))
     );
-    let last = found.initial.as_slice().last().copied();
-    expect_row(rt, last, (shape.0, 0), at)
+    let last = last_row(found.initial.as_slice());
+    expect_numbers(rt, last, (shape.0, 0), at)
 }
 
 // The 24th transition of a table holds so many guard rows, and the last guard row and update stand at two offsets.
@@ -104,10 +90,10 @@ fn expect_transition(
     assert_eq!(rt; (found.number, found.start, found.target), (24, 1, 4));
     let counts = (usize::from(guards), usize::from(shape.0));
     assert_eq!(rt; (found.guard.len(), found.updates.len()), counts);
-    let guard = found.guard.as_slice().last().copied();
-    expect_row(rt, guard, (shape.0, 0), at.0)?;
-    let update = found.updates.as_slice().last().copied();
-    expect_expression(rt, update, shape, at.1)
+    let guard = last_row(found.guard.as_slice());
+    expect_numbers(rt, guard, (shape.0, 0), at.0)?;
+    let update = last_expression(found.updates.as_slice());
+    expect_numbers(rt, update, shape, at.1)
 }
 
 #[test]
@@ -116,27 +102,21 @@ fn records_of_tables(rt: HostRuntime) -> Result<(), Fail> {
         let bytes = table(rt.alloc(), (shape, 24, (initial, guards)))?;
         let (heading, last) = last_of_table(&bytes)?;
         expect_heading(&rt, &heading, shape, initial, row)?;
-        let Some(transition) = last else {
-            return Err(Fail::new("no transition"));
-        };
+        let transition = last.ok_or("no transition")?;
         expect_transition(&rt, transition, shape, guards, (guard, update))?;
     }
     Ok(())
 }
 
 // Reads a witness against a table, and hands out its last records.
-fn last_of_witness(table: &[u8], bytes: &[u8]) -> Result<(Option<Place>, Option<Inner>), Fault> {
-    let mut transition_records = [unread_transition(); 24];
-    let mut transitions = Register::new(&mut transition_records);
-    let heading = read_table(table, &mut transitions, 12, 24)?;
+fn last_of_witness(
+    bytes: &[u8],
+    view: TableView<'_>,
+) -> Result<(Option<Place>, Option<Inner>), Fault> {
     let mut place_records = [unread_place(); 12];
     let mut inner_records = [unread_inner(); 24];
     let mut places = Register::new(&mut place_records);
     let mut inners = Register::new(&mut inner_records);
-    let view = TableView {
-        heading: &heading,
-        transitions: transitions.as_slice(),
-    };
     read_witness(bytes, view, &mut places, &mut inners)?;
     Ok((places.get(11), inners.get(23)))
 }
@@ -162,13 +142,11 @@ fn expect_place(
     assert_eq!(rt; (found.number, found.last), (12, 1));
     let counts = (usize::from(rows.0), usize::from(rows.1.saturating_sub(1)));
     assert_eq!(rt; (found.condition.len(), found.tested.len()), counts);
-    let condition = found.condition.as_slice().last().copied();
-    expect_row(rt, condition, (values, 0), at.0)?;
-    let Some(entry) = found.tested.as_slice().last() else {
-        return Err(Fail::new("no entry"));
-    };
+    let condition = last_row(found.condition.as_slice());
+    expect_numbers(rt, condition, (values, 0), at.0)?;
+    let entry = found.tested.as_slice().last().ok_or("no entry")?;
     assert_eq!(rt; entry.transition, 1);
-    expect_row(rt, Some(entry.test), (values, 0), at.1)
+    expect_numbers(rt, Some(*entry.test.numbers()), (values, 0), at.1)
 }
 
 // The 24th inner transition holds so many restriction rows, and the last restriction row and choice expression stand at
@@ -183,10 +161,10 @@ fn expect_inner(
     let counts = (usize::from(restrictions), usize::from(shape.1));
     assert_eq!(rt; found.number, 24);
     assert_eq!(rt; (found.restrictions.len(), found.choices.len()), counts);
-    let restriction = found.restrictions.as_slice().last().copied();
-    expect_row(rt, restriction, shape, at.0)?;
-    let choice = found.choices.as_slice().last().copied();
-    expect_expression(rt, choice, (shape.0, 0), at.1)
+    let restriction = last_row(found.restrictions.as_slice());
+    expect_numbers(rt, restriction, shape, at.0)?;
+    let choice = last_expression(found.choices.as_slice());
+    expect_numbers(rt, choice, (shape.0, 0), at.1)
 }
 
 #[test]
@@ -194,9 +172,9 @@ fn records_of_witnesses(rt: HostRuntime) -> Result<(), Fail> {
     for &(shape, rows, in_place, in_inner) in WITNESSES.iter() {
         let against = table(rt.alloc(), (shape, 24, (0, 0)))?;
         let bytes = witness(rt.alloc(), (shape, (12, 1, 25, 0), rows))?;
-        let (Some(place), Some(inner)) = last_of_witness(&against, &bytes)? else {
-            return Err(Fail::new("no record"));
-        };
+        let (place, inner) = with_table(&against, |view| last_of_witness(&bytes, view))??;
+        let place = place.ok_or("no place")?;
+        let inner = inner.ok_or("no inner transition")?;
         expect_place(&rt, place, shape.0, (rows.0, rows.1), in_place)?;
         expect_inner(&rt, inner, shape, rows.2, in_inner)?;
     }

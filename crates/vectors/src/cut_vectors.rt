@@ -102,41 +102,28 @@ fn rounded_down(rt: HostRuntime) -> Result<(), Fail> {
     Ok(())
 }
 
-// One byte short, whole, one byte long.
+// A certificate and the answer: one byte short, whole, one byte long; then one that hands down, and one byte too long.
+fn lengths_told() -> [(&'static [u8], Answer); 5] {
+    [
+        (&[1, 0, 1, 0], fault(FaultKind::CertificateLength, 0, 0, 0)),
+        (&[1, 0, 1, 0, 1], Ok(())),
+        (
+            &[1, 0, 1, 0, 1, 0],
+            fault(FaultKind::CertificateLength, 5, 1, 0),
+        ),
+        (&[0], Ok(())),
+        (&[0, 0], fault(FaultKind::CertificateLength, 1, 1, 0)),
+    ]
+}
+
 #[test]
 fn lengths(rt: HostRuntime) -> Result<(), Fail> {
     let mut sheet = [first(1, 1); 2];
-    let bytes = [1, 0, 1, 0, 1, 0];
     let goal = first(1, 1);
-    expect(
-        &rt,
-        &cut(),
-        &mut sheet,
-        claim(1, &goal, &bytes[0..4]),
-        fault(FaultKind::CertificateLength, 0, 0, 0),
-    )?;
-    expect(
-        &rt,
-        &cut(),
-        &mut sheet,
-        claim(1, &goal, &bytes[0..5]),
-        Ok(()),
-    )?;
-    expect(
-        &rt,
-        &cut(),
-        &mut sheet,
-        claim(1, &goal, &bytes[0..6]),
-        fault(FaultKind::CertificateLength, 5, 1, 0),
-    )?;
-    expect(&rt, &cut(), &mut sheet, claim(1, &goal, &[0]), Ok(()))?;
-    expect(
-        &rt,
-        &cut(),
-        &mut sheet,
-        claim(1, &goal, &[0, 0]),
-        fault(FaultKind::CertificateLength, 1, 1, 0),
-    )
+    for (bytes, answer) in lengths_told() {
+        expect(&rt, &cut(), &mut sheet, claim(1, &goal, bytes), answer)?;
+    }
+    Ok(())
 }
 
 #[test]
@@ -204,27 +191,7 @@ fn earlier_fault_wins(rt: HostRuntime) -> Result<(), Fail> {
     let mut none: [Numbers; 0] = [];
     let mut free = [first(0, 0)];
     let goal = first(1, 1);
-    expect(
-        &rt,
-        &cut(),
-        &mut sheet,
-        claim(33, &goal, &[]),
-        fault(FaultKind::TooManyFacts, 0, 0, 0),
-    )?;
-    expect(
-        &rt,
-        &cut(),
-        &mut sheet,
-        claim(1, &only(2, over), &[]),
-        fault(FaultKind::RowNumberTooLarge, 0, 0, 3),
-    )?;
-    expect(
-        &rt,
-        &cut(),
-        &mut sheet,
-        claim(0, &only(2, over), &[]),
-        fault(FaultKind::RowNumberTooLarge, 0, 0, 2),
-    )?;
+    expect_opening_faults(&rt, &cut(), &[])?;
     expect(
         &rt,
         &cut(),

@@ -1,6 +1,6 @@
 // What the vectors are built of.
 use methods::{Claim, ProofMethod, ask};
-use rows::limits::ITEMS;
+use rows::limits::{ITEMS, ROW_LIMIT};
 use rows::{Answer, Fault, FaultKind, Numbers};
 use std::process::Abort;
 use std::test::Fail;
@@ -99,4 +99,34 @@ pub fn expect_first_bytes<M: ProofMethod>(rt: &impl Abort, layer: &M) -> Result<
         claim(1, &goal, &[]),
         fault(FaultKind::CertificateLength, 0, 0, 0),
     )
+}
+
+// The count of facts, the goal and the answer where each fact has a number too large: too many facts are told first,
+// then the fact, then the goal.
+fn opening_faults() -> [(usize, Numbers, Answer); 3] {
+    let large = only(2, ROW_LIMIT + 1);
+    [
+        (33, first(1, 1), fault(FaultKind::TooManyFacts, 0, 0, 0)),
+        (1, large, fault(FaultKind::RowNumberTooLarge, 0, 0, 3)),
+        (0, large, fault(FaultKind::RowNumberTooLarge, 0, 0, 2)),
+    ]
+}
+
+// A method tells these faults, although it would refuse the certificate too.
+pub fn expect_opening_faults<M: ProofMethod>(
+    rt: &impl Abort,
+    method: &M,
+    certificate: &[u8],
+) -> Result<(), Fail> {
+    for (count, goal, answer) in opening_faults() {
+        let mut sheet = [only(3, ROW_LIMIT + 1); 40];
+        expect(
+            rt,
+            method,
+            &mut sheet,
+            claim(count, &goal, certificate),
+            answer,
+        )?;
+    }
+    Ok(())
 }

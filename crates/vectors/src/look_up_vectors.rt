@@ -45,35 +45,14 @@ fn every_item_counts(rt: HostRuntime) -> Result<(), Fail> {
 
 #[test]
 fn earlier_fault_wins(rt: HostRuntime) -> Result<(), Fail> {
-    let over = ROW_LIMIT + 1;
-    let mut sheet = [only(3, over); 40];
-    expect(
-        &rt,
-        &LookUp,
-        &mut sheet,
-        claim(33, &first(1, 1), &[1]),
-        fault(FaultKind::TooManyFacts, 0, 0, 0),
-    )?;
+    let mut sheet = [only(3, ROW_LIMIT + 1); 40];
+    expect_opening_faults(&rt, &LookUp, &[1])?;
     expect(
         &rt,
         &LookUp,
         &mut sheet,
         claim(41, &first(1, 1), &[1]),
         fault(FaultKind::TooManyFacts, 0, 0, 0),
-    )?;
-    expect(
-        &rt,
-        &LookUp,
-        &mut sheet,
-        claim(1, &only(2, over), &[1]),
-        fault(FaultKind::RowNumberTooLarge, 0, 0, 3),
-    )?;
-    expect(
-        &rt,
-        &LookUp,
-        &mut sheet,
-        claim(0, &only(2, over), &[1]),
-        fault(FaultKind::RowNumberTooLarge, 0, 0, 2),
     )?;
     expect(
         &rt,

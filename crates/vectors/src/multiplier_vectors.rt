@@ -2,7 +2,7 @@
 use crate::helpers::*;
 use methods::Multipliers;
 use rows::limits::ROW_LIMIT;
-use rows::{Answer, FaultKind};
+use rows::{Answer, FaultKind, Numbers};
 use std::array::from_fn;
 use std::test::Fail;
 
@@ -44,118 +44,80 @@ fn lengths(rt: HostRuntime) -> Result<(), Fail> {
     let bytes = [0, 1, 0, 1, 0];
     let goal = first(1, 1);
     let short = fault(FaultKind::CertificateLength, 0, 0, 0);
-    expect(
-        &rt,
-        &Multipliers,
-        &mut sheet,
-        claim(1, &goal, &bytes[0..3]),
-        short,
-    )?;
-    expect(
-        &rt,
-        &Multipliers,
-        &mut sheet,
-        claim(1, &goal, &bytes[0..4]),
-        Ok(()),
-    )?;
-    expect(
-        &rt,
-        &Multipliers,
-        &mut sheet,
-        claim(1, &goal, &bytes[0..5]),
-        short,
-    )?;
-    expect(
-        &rt,
-        &Multipliers,
-        &mut sheet,
-        claim(1, &goal, &bytes[0..0]),
-        short,
-    )
+    for (end, answer) in [(3, short), (4, Ok(())), (5, short), (0, short)] {
+        assert!(rt; end <= 5);
+        expect(
+            &rt,
+            &Multipliers,
+            &mut sheet,
+            claim(1, &goal, &bytes[0..end]),
+            answer,
+        )?;
+    }
+    Ok(())
 }
 
 // Of two faults the one that is tested first is told.
 #[test]
 fn earlier_fault_wins(rt: HostRuntime) -> Result<(), Fail> {
+    expect_opening_faults(&rt, &Multipliers, &[])?;
     let goal = first(1, 1);
     let over = ROW_LIMIT + 1;
     let mut sheet = [only(3, over); 40];
     let facts = fault(FaultKind::TooManyFacts, 0, 0, 0);
-    expect(&rt, &Multipliers, &mut sheet, claim(33, &goal, &[]), facts)?;
     expect(&rt, &Multipliers, &mut sheet, claim(41, &goal, &[]), facts)?;
-    let fact = fault(FaultKind::RowNumberTooLarge, 0, 0, 3);
-    expect(
-        &rt,
-        &Multipliers,
-        &mut sheet,
-        claim(1, &only(2, over), &[]),
-        fact,
-    )?;
     sheet[0] = only(5, over);
-    let other = fault(FaultKind::RowNumberTooLarge, 0, 0, 5);
-    expect(&rt, &Multipliers, &mut sheet, claim(2, &goal, &[]), other)?;
-    let goal_fault = fault(FaultKind::RowNumberTooLarge, 0, 0, 2);
-    expect(
-        &rt,
-        &Multipliers,
-        &mut sheet,
-        claim(0, &only(2, over), &[]),
-        goal_fault,
-    )
+    let fact = fault(FaultKind::RowNumberTooLarge, 0, 0, 5);
+    expect(&rt, &Multipliers, &mut sheet, claim(2, &goal, &[]), fact)
+}
+
+// The count of facts a ≤ 1, the goal, the certificate and the answer.
+fn among_numbers() -> [(usize, Numbers, &'static [u8], Answer); 6] {
+    let two_columns = Numbers {
+        coefficients: [0, 0, 1, 0, 0, 1, 0, 0],
+        bound: 0,
+    };
+    let length = fault(FaultKind::CertificateLength, 0, 0, 0);
+    let second = fault(FaultKind::MultiplierRange, 2, 0, 0);
+    let third = fault(FaultKind::MultiplierRange, 4, 0, 0);
+    let column = fault(FaultKind::ColumnDiffers, 0, 0, 0);
+    let bound = fault(FaultKind::BoundNotShown, 0, 0, 8);
+    let other = fault(FaultKind::ColumnDiffers, 0, 0, 2);
+    [
+        (1, first(1, 1), &[0, 0], length),
+        (2, first(1, 1), &[0, 1, 255, 255, 255, 255], second),
+        (2, first(9, 0), &[0, 1, 0, 1, 255, 255], third),
+        (1, first(2, 0), &[0, 1, 0, 1], column),
+        (1, first(1, 0), &[0, 1, 0, 1], bound),
+        (0, two_columns, &[0, 1], other),
+    ]
 }
 
 #[test]
 fn earlier_fault_wins_among_numbers(rt: HostRuntime) -> Result<(), Fail> {
-    let mut sheet = [first(1, 1); 40];
-    let length = fault(FaultKind::CertificateLength, 0, 0, 0);
-    expect(
-        &rt,
-        &Multipliers,
-        &mut sheet,
-        claim(1, &first(1, 1), &[0, 0]),
-        length,
-    )?;
-    let second = fault(FaultKind::MultiplierRange, 2, 0, 0);
-    expect(
-        &rt,
-        &Multipliers,
-        &mut sheet,
-        claim(2, &first(1, 1), &[0, 1, 255, 255, 255, 255]),
-        second,
-    )?;
-    let third = fault(FaultKind::MultiplierRange, 4, 0, 0);
-    expect(
-        &rt,
-        &Multipliers,
-        &mut sheet,
-        claim(2, &first(9, 0), &[0, 1, 0, 1, 255, 255]),
-        third,
-    )?;
-    let column = fault(FaultKind::ColumnDiffers, 0, 0, 0);
-    expect(
-        &rt,
-        &Multipliers,
-        &mut sheet,
-        claim(1, &first(2, 0), &[0, 1, 0, 1]),
-        column,
-    )?;
+    for (count, goal, bytes, answer) in among_numbers() {
+        let mut sheet = [first(1, 1); 40];
+        expect(
+            &rt,
+            &Multipliers,
+            &mut sheet,
+            claim(count, &goal, bytes),
+            answer,
+        )?;
+    }
+    Ok(())
+}
+
+// The fact and the answer to a goal with the row limit as its bound.
+fn facts_at_the_limit() -> [(Numbers, Answer); 4] {
     let bound = fault(FaultKind::BoundNotShown, 0, 0, 8);
-    expect(
-        &rt,
-        &Multipliers,
-        &mut sheet,
-        claim(1, &first(1, 0), &[0, 1, 0, 1]),
-        bound,
-    )?;
-    let mut goal = only(5, 1);
-    goal.coefficients[2] = 1;
-    expect(
-        &rt,
-        &Multipliers,
-        &mut sheet,
-        claim(0, &goal, &[0, 1]),
-        fault(FaultKind::ColumnDiffers, 0, 0, 2),
-    )
+    let column = fault(FaultKind::ColumnDiffers, 0, 0, 7);
+    [
+        (only(8, ROW_LIMIT), bound),
+        (only(8, -ROW_LIMIT), Ok(())),
+        (only(7, ROW_LIMIT), column),
+        (only(7, -ROW_LIMIT), column),
+    ]
 }
 
 // 32 facts at the row limit, each taken 10,000 times: the greatest sum, 6.4 × 10¹⁸ in magnitude, of the bounds and of a
@@ -165,36 +127,15 @@ fn greatest_sums(rt: HostRuntime) -> Result<(), Fail> {
     let weight = 10_000u16.to_be_bytes();
     let bytes: [u8; 66] = from_fn(|k| weight[k % 2]);
     let goal = only(8, ROW_LIMIT);
-    let mut high_bounds = [only(8, ROW_LIMIT); 32];
-    let mut low_bounds = [only(8, -ROW_LIMIT); 32];
-    let mut high_columns = [only(7, ROW_LIMIT); 32];
-    let mut low_columns = [only(7, -ROW_LIMIT); 32];
-    expect(
-        &rt,
-        &Multipliers,
-        &mut high_bounds,
-        claim(32, &goal, &bytes),
-        fault(FaultKind::BoundNotShown, 0, 0, 8),
-    )?;
-    expect(
-        &rt,
-        &Multipliers,
-        &mut low_bounds,
-        claim(32, &goal, &bytes),
-        Ok(()),
-    )?;
-    expect(
-        &rt,
-        &Multipliers,
-        &mut high_columns,
-        claim(32, &goal, &bytes),
-        fault(FaultKind::ColumnDiffers, 0, 0, 7),
-    )?;
-    expect(
-        &rt,
-        &Multipliers,
-        &mut low_columns,
-        claim(32, &goal, &bytes),
-        fault(FaultKind::ColumnDiffers, 0, 0, 7),
-    )
+    for (fact, answer) in facts_at_the_limit() {
+        let mut sheet = [fact; 32];
+        expect(
+            &rt,
+            &Multipliers,
+            &mut sheet,
+            claim(32, &goal, &bytes),
+            answer,
+        )?;
+    }
+    Ok(())
 }

@@ -45,57 +45,38 @@ fn row_beyond_its_limit(rt: HostRuntime) -> Result<(), Fail> {
     Ok(())
 }
 
-// One byte short, whole, one byte long; then a first certificate that does not fit and one that does.
+// The length of the first certificate as it is written, the number of bytes and the answer: one byte short, whole, one
+// byte long; then a first certificate that does not fit and one that does.
+fn lengths_told() -> [(u16, usize, Answer); 6] {
+    let short = fault(FaultKind::CertificateLength, 0, 0, 0);
+    let below = fault(FaultKind::CertificateLength, 39, 1, 0);
+    [
+        (0, 38, short),
+        (0, 39, Ok(())),
+        (0, 40, below),
+        (1, 39, short),
+        (1, 40, below),
+        (65_281, 41, short),
+    ]
+}
+
 #[test]
 fn lengths(rt: HostRuntime) -> Result<(), Fail> {
     let mut sheet = [first(1, 1); 2];
-    let mut bytes = [0; 41];
-    bytes[0] = 1;
     let goal = first(1, 1);
-    expect(
-        &rt,
-        &split(),
-        &mut sheet,
-        claim(1, &goal, &bytes[0..38]),
-        fault(FaultKind::CertificateLength, 0, 0, 0),
-    )?;
-    expect(
-        &rt,
-        &split(),
-        &mut sheet,
-        claim(1, &goal, &bytes[0..39]),
-        Ok(()),
-    )?;
-    expect(
-        &rt,
-        &split(),
-        &mut sheet,
-        claim(1, &goal, &bytes[0..40]),
-        fault(FaultKind::CertificateLength, 39, 1, 0),
-    )?;
-    bytes[38] = 1;
-    expect(
-        &rt,
-        &split(),
-        &mut sheet,
-        claim(1, &goal, &bytes[0..39]),
-        fault(FaultKind::CertificateLength, 0, 0, 0),
-    )?;
-    expect(
-        &rt,
-        &split(),
-        &mut sheet,
-        claim(1, &goal, &bytes[0..40]),
-        fault(FaultKind::CertificateLength, 39, 1, 0),
-    )?;
-    bytes[37] = 255;
-    expect(
-        &rt,
-        &split(),
-        &mut sheet,
-        claim(1, &goal, &bytes),
-        fault(FaultKind::CertificateLength, 0, 0, 0),
-    )?;
+    for (length, end, answer) in lengths_told() {
+        let mut bytes = [0; 41];
+        bytes[0] = 1;
+        bytes[37..39].copy_from_slice(&length.to_be_bytes());
+        assert!(rt; end <= 41);
+        expect(
+            &rt,
+            &split(),
+            &mut sheet,
+            claim(1, &goal, &bytes[0..end]),
+            answer,
+        )?;
+    }
     expect(&rt, &split(), &mut sheet, claim(1, &goal, &[0]), Ok(()))?;
     expect(
         &rt,
@@ -138,6 +119,16 @@ fn one_case_is_not_enough(rt: HostRuntime) -> Result<(), Fail> {
     Ok(())
 }
 
+// Bytes 43, 48 and 49 and the answer: each multiplier has two bytes, the first case's from 39 and the second's from 45.
+fn multipliers_told() -> [(u8, u8, u8, Answer); 4] {
+    [
+        (0, 1, 0, Ok(())),
+        (0, 2, 0, fault(FaultKind::ColumnDiffers, 45, 1, 0)),
+        (0, 2, 255, fault(FaultKind::MultiplierRange, 49, 1, 0)),
+        (255, 2, 255, fault(FaultKind::MultiplierRange, 43, 1, 0)),
+    ]
+}
+
 // a ≤ 1 by the cases a ≤ 0 and -a ≤ -1, each with multipliers of its own behind the split's own part.
 #[test]
 fn both_cases(rt: HostRuntime) -> Result<(), Fail> {
@@ -150,38 +141,19 @@ fn both_cases(rt: HostRuntime) -> Result<(), Fail> {
     bytes[40] = 1;
     bytes[44] = 1;
     bytes[46] = 1;
-    bytes[48] = 1;
-    expect(
-        &rt,
-        &stack,
-        &mut sheet,
-        claim(1, &first(1, 1), &bytes),
-        Ok(()),
-    )?;
-    bytes[48] = 2;
-    expect(
-        &rt,
-        &stack,
-        &mut sheet,
-        claim(1, &first(1, 1), &bytes),
-        fault(FaultKind::ColumnDiffers, 45, 1, 0),
-    )?;
-    bytes[49] = 255;
-    expect(
-        &rt,
-        &stack,
-        &mut sheet,
-        claim(1, &first(1, 1), &bytes),
-        fault(FaultKind::MultiplierRange, 49, 1, 0),
-    )?;
-    bytes[43] = 255;
-    expect(
-        &rt,
-        &stack,
-        &mut sheet,
-        claim(1, &first(1, 1), &bytes),
-        fault(FaultKind::MultiplierRange, 43, 1, 0),
-    )
+    for (in_first, in_second, behind, answer) in multipliers_told() {
+        bytes[43] = in_first;
+        bytes[48] = in_second;
+        bytes[49] = behind;
+        expect(
+            &rt,
+            &stack,
+            &mut sheet,
+            claim(1, &first(1, 1), &bytes),
+            answer,
+        )?;
+    }
+    Ok(())
 }
 
 // Of two faults the one that is tested first is told.
@@ -191,27 +163,7 @@ fn earlier_fault_wins(rt: HostRuntime) -> Result<(), Fail> {
     let mut sheet = [only(3, over); 40];
     let mut none: [Numbers; 0] = [];
     let goal = first(1, 1);
-    expect(
-        &rt,
-        &split(),
-        &mut sheet,
-        claim(33, &goal, &[]),
-        fault(FaultKind::TooManyFacts, 0, 0, 0),
-    )?;
-    expect(
-        &rt,
-        &split(),
-        &mut sheet,
-        claim(1, &only(2, over), &[]),
-        fault(FaultKind::RowNumberTooLarge, 0, 0, 3),
-    )?;
-    expect(
-        &rt,
-        &split(),
-        &mut sheet,
-        claim(0, &only(2, over), &[]),
-        fault(FaultKind::RowNumberTooLarge, 0, 0, 2),
-    )?;
+    expect_opening_faults(&rt, &split(), &[])?;
     expect(
         &rt,
         &split(),

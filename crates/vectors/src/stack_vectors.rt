@@ -1,7 +1,7 @@
 // Three layers over a method: places add up and the depth rises.
 use crate::helpers::*;
 use methods::{Cut, LookUp, Multipliers, Split};
-use rows::FaultKind;
+use rows::{Answer, FaultKind};
 use std::test::Fail;
 
 fn stack() -> Split<Cut<Split<LookUp>>> {
@@ -12,68 +12,50 @@ fn stack() -> Split<Cut<Split<LookUp>>> {
     }
 }
 
-// Every layer hands down.
+// The goal's bound, the certificate and the answer: every layer hands down.
+fn hand_downs() -> [(i64, &'static [u8], Answer); 7] {
+    [
+        (1, &[0, 0, 0], Ok(())),
+        (0, &[0, 0, 0], fault(FaultKind::BoundNotShown, 3, 3, 8)),
+        (
+            1,
+            &[0, 0, 0, 0],
+            fault(FaultKind::CertificateLength, 3, 3, 0),
+        ),
+        (1, &[0, 0, 2], fault(FaultKind::LayerByte, 2, 2, 0)),
+        (1, &[0, 2], fault(FaultKind::LayerByte, 1, 1, 0)),
+        (1, &[0, 0], fault(FaultKind::CertificateLength, 2, 2, 0)),
+        (1, &[2], fault(FaultKind::LayerByte, 0, 0, 0)),
+    ]
+}
+
 #[test]
 fn handed_down(rt: HostRuntime) -> Result<(), Fail> {
     let mut sheet = [first(1, 1); 1];
-    let goal = first(1, 1);
-    expect(
-        &rt,
-        &stack(),
-        &mut sheet,
-        claim(1, &goal, &[0, 0, 0]),
-        Ok(()),
-    )?;
-    expect(
-        &rt,
-        &stack(),
-        &mut sheet,
-        claim(1, &first(1, 0), &[0, 0, 0]),
-        fault(FaultKind::BoundNotShown, 3, 3, 8),
-    )?;
-    expect(
-        &rt,
-        &stack(),
-        &mut sheet,
-        claim(1, &goal, &[0, 0, 0, 0]),
-        fault(FaultKind::CertificateLength, 3, 3, 0),
-    )?;
-    expect(
-        &rt,
-        &stack(),
-        &mut sheet,
-        claim(1, &goal, &[0, 0, 2]),
-        fault(FaultKind::LayerByte, 2, 2, 0),
-    )?;
-    expect(
-        &rt,
-        &stack(),
-        &mut sheet,
-        claim(1, &goal, &[0, 2]),
-        fault(FaultKind::LayerByte, 1, 1, 0),
-    )?;
-    expect(
-        &rt,
-        &stack(),
-        &mut sheet,
-        claim(1, &goal, &[0, 0]),
-        fault(FaultKind::CertificateLength, 2, 2, 0),
-    )?;
-    expect(
-        &rt,
-        &stack(),
-        &mut sheet,
-        claim(1, &goal, &[2]),
-        fault(FaultKind::LayerByte, 0, 0, 0),
-    )
+    for (bound, bytes, answer) in hand_downs() {
+        expect(
+            &rt,
+            &stack(),
+            &mut sheet,
+            claim(1, &first(1, bound), bytes),
+            answer,
+        )?;
+    }
+    Ok(())
 }
 
-// Every layer adds a fact: 39 + 7 + 39 bytes lie before the last certificate.
+// The sheet's rows and the answer where every layer adds a fact: 39 + 7 + 39 bytes lie before the last certificate.
+fn rooms() -> [(usize, Answer); 4] {
+    [
+        (4, fault(FaultKind::CertificateLength, 85, 3, 0)),
+        (3, fault(FaultKind::NoRoomForFact, 46, 2, 0)),
+        (2, fault(FaultKind::NoRoomForFact, 39, 1, 0)),
+        (1, fault(FaultKind::NoRoomForFact, 0, 0, 0)),
+    ]
+}
+
 #[test]
 fn facts_added_in_each_layer(rt: HostRuntime) -> Result<(), Fail> {
-    let mut one = [first(1, 1); 1];
-    let mut two = [first(1, 1); 2];
-    let mut three = [first(1, 1); 3];
     let mut sheet = [first(1, 1); 4];
     let goal = first(1, 1);
     let mut bytes = [0; 90];
@@ -82,34 +64,16 @@ fn facts_added_in_each_layer(rt: HostRuntime) -> Result<(), Fail> {
     bytes[39] = 1;
     bytes[41] = 1;
     bytes[46] = 1;
-    expect(
-        &rt,
-        &stack(),
-        &mut sheet,
-        claim(1, &goal, &bytes),
-        fault(FaultKind::CertificateLength, 85, 3, 0),
-    )?;
-    expect(
-        &rt,
-        &stack(),
-        &mut three,
-        claim(1, &goal, &bytes),
-        fault(FaultKind::NoRoomForFact, 46, 2, 0),
-    )?;
-    expect(
-        &rt,
-        &stack(),
-        &mut two,
-        claim(1, &goal, &bytes),
-        fault(FaultKind::NoRoomForFact, 39, 1, 0),
-    )?;
-    expect(
-        &rt,
-        &stack(),
-        &mut one,
-        claim(1, &goal, &bytes),
-        fault(FaultKind::NoRoomForFact, 0, 0, 0),
-    )?;
+    for (rows, answer) in rooms() {
+        assert!(rt; rows <= 4);
+        expect(
+            &rt,
+            &stack(),
+            &mut sheet[0..rows],
+            claim(1, &goal, &bytes),
+            answer,
+        )?;
+    }
     bytes[43] = 1;
     bytes[42] = 255;
     expect(

@@ -68,16 +68,12 @@ fn expressions(rt: HostRuntime) {
 // Every number at its limit: the greatest value, 8 × 10¹⁵ + 10⁶ in magnitude.
 #[test]
 fn greatest_value(rt: HostRuntime) -> Result<(), Fail> {
-    let Some(point) = Point::new([VALUE_LIMIT; COLUMNS]) else {
-        return Err(Fail::new("point"));
-    };
+    let point = Point::new([VALUE_LIMIT; COLUMNS]).ok_or("point")?;
     for (number, value) in [
         (WRITTEN_LIMIT, 8_000_000_001_000_000),
         (-WRITTEN_LIMIT, -8_000_000_001_000_000),
     ] {
-        let Ok(expression) = Expression::new([number; COLUMNS], number) else {
-            return Err(Fail::new("expression"));
-        };
+        let expression = Expression::new([number; COLUMNS], number)?;
         assert_eq!(rt; expression.value_at(&point), value);
     }
     Ok(())
@@ -86,18 +82,12 @@ fn greatest_value(rt: HostRuntime) -> Result<(), Fail> {
 // The value of a, and whether it meets 2a ≤ 3 and not its opposite.
 #[test]
 fn opposites(rt: HostRuntime) -> Result<(), Fail> {
-    let Ok(row) = WrittenRow::new(first(2, 3)) else {
-        return Err(Fail::new("row"));
-    };
+    let row = WrittenRow::new(first(2, 3))?;
     let turned = *row.opposite().numbers();
     assert_eq!(rt; turned, first(-2, -4));
-    let Ok(other) = WrittenRow::new(turned) else {
-        return Err(Fail::new("opposite"));
-    };
+    let other = WrittenRow::new(turned)?;
     for (value, met) in [(1, true), (2, false), (-5, true), (VALUE_LIMIT, false)] {
-        let Some(point) = Point::new(only(0, value).coefficients) else {
-            return Err(Fail::new("point"));
-        };
+        let point = Point::new(only(0, value).coefficients).ok_or("point")?;
         assert_eq!(rt; row.is_met(&point), met);
         assert_eq!(rt; other.is_met(&point), !met);
     }
@@ -107,9 +97,7 @@ fn opposites(rt: HostRuntime) -> Result<(), Fail> {
 // The opposite of a row at the limit is one past it.
 #[test]
 fn opposite_at_the_limit(rt: HostRuntime) -> Result<(), Fail> {
-    let Ok(row) = WrittenRow::new(only(8, WRITTEN_LIMIT)) else {
-        return Err(Fail::new("row"));
-    };
+    let row = WrittenRow::new(only(8, WRITTEN_LIMIT))?;
     assert_eq!(rt; *row.opposite().numbers(), only(8, -WRITTEN_LIMIT - 1));
     Ok(())
 }
