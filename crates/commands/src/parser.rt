@@ -16,7 +16,7 @@ pub const SHEET_ROWS: i64 = 64;
 // A command of the console.
 #[derive(Clone, Copy, PartialEq, Eq, Debug)]
 pub enum Command<'a> {
-    // An empty line or a comment.
+    // An empty line or a comment. No Option around Command: `line_of` has it among what a line says, and tests compare it as such.
     Nothing,
     // The fact sheet has so many rows from here on.
     Sheet(usize),
@@ -44,7 +44,7 @@ enum Keyword {
 }
 
 impl Keyword {
-    // The keyword that a word is. An Option says all: FromStr would need an error type that says no more.
+    // The keyword that a word is. No FromStr: the parser says which error an unknown word is, as it knows where the word stands.
     #[tactic(auto, using(crate::proofs::Parsing::unlike))]
     fn read(word: &str) -> Option<Keyword>
         ensures { result ≡ keyword_of word.now }
