@@ -99,7 +99,7 @@ impl Reply {
         }
     }
 
-    // The answer as text: to_string, with the text in a contract of its own.
+    // The answer as text: to_string for callers, with the text in the contract.
     pub fn text(&self, heap: Global) -> Result<String, AllocError>
         ensures { IfOk result (λ t. string_bytes t ≡ reply_text self.now) }
     {
