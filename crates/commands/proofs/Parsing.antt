@@ -11,7 +11,7 @@ use Rattle.words.proofs.Reading.{handed_err, ended_ok, ended_err}
 use Rattle.commands.specs.declared.parser.Command.{Command}
 use Rattle.commands.specs.declared.parser.Keyword.{Keyword}
 use Rattle.commands.specs.declared.stacks.Stack.{Stack}
-use Rattle.commands.specs.Lines.{set_sheet, ask_method, first_method, sheet_rows, sheet_line, ask_line, nothing, keyword_of, keyed, line_from, line_of}
+use Rattle.commands.specs.Lines.{set_sheet, ask_method, first_method, sheet_rows, sheet_line, ask_line, nothing, keyword_of, keyed, line_by, line_from, line_of}
 use Rattle.commands.specs.Read.{says_in}
 
 -- a word that is no name
@@ -66,6 +66,13 @@ module _ (bytes w : List ℕ) (ws : List (List ℕ)) (words : words_of bytes ≡
   pub line_keyed : (get_or w 0 0 ≡ 35 → ⊥) → (k : Option Keyword) → keyword_of w ≡ k → line_of bytes ≡ keyed k ws
   unfolding line_of
   line_keyed h k e = ap line_from words ∙ cond-false (eqb (get_or w 0 0) 35) _ _ (ne_eqb _ 35 h) ∙ ap (λ o. keyed o ws) e
+
+  pub line_known : (get_or w 0 0 ≡ 35 → ⊥) → (k : Keyword) → ok_or (keyword_of w) UnknownCommand ≡ Ok k → line_of bytes ≡ line_by k ws
+  line_known h k some = line_keyed h (keyword_of w) refl ∙ known (keyword_of w) some
+    where
+      known : (o : Option Keyword) → ok_or o UnknownCommand ≡ Ok k → keyed o ws ≡ line_by k ws
+      known None some = let z : ◌≡◌ {A = ℕ} 0 1 = cc in absurd (omega arith)
+      known (Some j) some = let same : j ≡ k = cc in ap (λ x. line_by x ws) same
 
   pub line_unknown : (get_or w 0 0 ≡ 35 → ⊥) → (e : LineError) → ok_or (keyword_of w) UnknownCommand ≡ Err e → line_of bytes ≡ Err e
   line_unknown h e none = line_keyed h (keyword_of w) refl ∙ unknown (keyword_of w) none

@@ -4,10 +4,12 @@ ghost use Rattle.commands.specs.Read.{says_in};
 ghost use Rattle.commands.specs.Saying.{LinesRead};
 ghost use Rattle.words.specs.Arguments.{rest_of};
 ghost use Rattle.words.specs.Read.{left};
-ghost use Rattle.std.specs.Prelude.{◌≡◌};
+ghost use Rattle.words.specs.declared.errors.LineError.TheVariants.{UnknownCommand};
+ghost use Rattle.std.specs.Prelude.{◌≡◌, ok_or};
 
 use crate::stacks::Stack;
 use rows::Numbers;
+use std::str::FromStr;
 use words::{Hex, LineError, Words};
 
 // The most rows that a sheet may have.
@@ -16,7 +18,7 @@ pub const SHEET_ROWS: i64 = 64;
 // A command of the console.
 #[derive(Clone, Copy, PartialEq, Eq, Debug)]
 pub enum Command<'a> {
-    // An empty line or a comment.
+    // An empty line or a comment. No Option around Command: `line_of` has it among what a line says, and tests compare it as such.
     Nothing,
     // The fact sheet has so many rows from here on.
     Sheet(usize),
@@ -43,23 +45,27 @@ enum Keyword {
     Ask,
 }
 
-impl Keyword {
-    // The keyword that a word is. An Option says all: FromStr would need an error type that says no more.
+impl FromStr for Keyword {
+    type Err = LineError;
+
+    ghost from_str_gives = { λ word r. r ≡ ok_or (keyword_of word) UnknownCommand };
+
+    // The keyword that a word is.
     #[tactic(auto, using(crate::proofs::Parsing::unlike))]
-    fn read(word: &str) -> Option<Keyword>
-        ensures { result ≡ keyword_of word.now }
-    {
+    fn from_str(word: &str) -> Result<Keyword, LineError> {
         match word {
-            "sheet" => Some(Keyword::Sheet),
-            "fact" => Some(Keyword::Fact),
-            "goal" => Some(Keyword::Goal),
-            "forget" => Some(Keyword::Forget),
-            "row" => Some(Keyword::Row),
-            "ask" => Some(Keyword::Ask),
-            _ => None,
+            "sheet" => Ok(Keyword::Sheet),
+            "fact" => Ok(Keyword::Fact),
+            "goal" => Ok(Keyword::Goal),
+            "forget" => Ok(Keyword::Forget),
+            "row" => Ok(Keyword::Row),
+            "ask" => Ok(Keyword::Ask),
+            _ => Err(LineError::UnknownCommand),
         }
     }
+}
 
+impl Keyword {
     // The keyword's command, with the words behind it.
     fn command(self, words: Words<'_>) -> Result<Command<'_>, LineError>
         ensures { says_in result ≡ line_by self (left words.entry) }
@@ -125,6 +131,6 @@ pub fn parse(line: &str) -> Result<Command<'_>, LineError>
     if first.starts_with('#') {
         return Ok(Command::Nothing);
     }
-    let keyword = Keyword::read(first).ok_or(LineError::UnknownCommand)?;
+    let keyword: Keyword = first.parse()?;
     keyword.command(words)
 }

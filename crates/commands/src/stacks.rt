@@ -26,7 +26,7 @@ pub enum Stack {
 }
 
 impl Base {
-    // The base of that name. An Option says all: FromStr would need an error type that says no more.
+    // The base of that name. No FromStr: Stack::read answers an Option, and the parser says which error an unknown name is.
     #[tactic(auto, using(crate::proofs::Parsing::unlike))]
     fn read(name: &str) -> Option<Base>
         ensures { result ≡ base_of name.now }
@@ -40,7 +40,7 @@ impl Base {
 }
 
 impl Layer {
-    // The layer of that name. An Option, as for a base.
+    // The layer of that name. No FromStr: Stack::read answers an Option, and the parser says which error an unknown name is.
     #[tactic(auto, using(crate::proofs::Parsing::unlike))]
     fn read(name: &str) -> Option<Layer>
         ensures { result ≡ layer_of name.now }
@@ -76,7 +76,8 @@ impl Stack {
         below.under(Layer::read(top)?)
     }
 
-    // The stack that a word writes, if it writes one: names, top first, with a slash between. An Option, as for a base.
+    // The stack that a word writes, if it writes one: names, top first, with a slash between.
+    // No FromStr: this is public and answers an Option; the parser, which knows where the word stands, says which error it is.
     pub fn read(word: &str) -> Option<Stack>
         ensures value { result ≡ stack_of word.now }
         ensures law { StacksRead }

@@ -4,7 +4,7 @@
 ghost use Rattle.examples.specs.WorkedExamples.{WorkedExamples};
 ghost use Rattle.std.specs.Prelude.{◌≡◌};
 
-// The theorem itself. There is nothing to run.
+// The theorem, with nothing to run. It is apart so that leaving it out is refused at the public function.
 fn theorem()
     ensures { WorkedExamples }
 {}

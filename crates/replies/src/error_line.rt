@@ -23,7 +23,7 @@ impl fmt::Display for ErrorLine {
 }
 
 impl ErrorLine {
-    // The answer as text.
+    // The answer as text: to_string for callers, with the text in the contract.
     pub fn text(&self, heap: Global) -> Result<String, AllocError>
         ensures { IfOk result (λ t. string_bytes t ≡ error_text self.now.line self.now.error) }
     {

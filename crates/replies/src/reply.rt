@@ -50,7 +50,7 @@ impl fmt::Display for WitnessRead {
     }
 }
 
-// What is answered to a command.
+// What is answered to a command. No Result: all are printed, four kinds of success and a refusal, each with a text of its own.
 #[derive(Clone, Copy)]
 pub enum Reply {
     // A method's yes to a question.
@@ -99,7 +99,7 @@ impl Reply {
         }
     }
 
-    // The answer as text.
+    // The answer as text: to_string for callers, with the text in the contract.
     pub fn text(&self, heap: Global) -> Result<String, AllocError>
         ensures { IfOk result (λ t. string_bytes t ≡ reply_text self.now) }
     {

@@ -1,4 +1,4 @@
-// The meaning of a table and a witness: runs, plans and obligations, and the code on values that they need.
+// The meaning of a table and a witness: runs, plans and obligations, and the laws that they keep.
 #![tactic(auto)]
 
 pub mod laws;

@@ -30,6 +30,9 @@ const ZEROS: Numbers = Numbers {
     bound: 0,
 };
 
+// What is answered to a command that cannot be refused.
+const DONE: Option<Reply> = Some(Reply::Done);
+
 // The facts in their order, the goal, and how many rows the fact sheet has.
 #[derive(Drop)]
 pub struct Session {
@@ -58,9 +61,7 @@ impl Session {
         sheet.resize(self.rows, ZEROS)?;
         Ok(sheet)
     }
-}
 
-impl Session {
     // The answer of a stack of methods to the question whether the facts give the goal.
     fn ask(&self, heap: Global, stack: Stack, certificate: Hex<'_>) -> Result<Answer, LineError>
         ensures { Answered result (asked_with (model_of self.now) stack (hex_bytes certificate.entry.word.now)) }
@@ -83,7 +84,7 @@ impl Session {
         if self.facts.len() >= MOST_HELD {
             return Err(LineError::FactsFull);
         }
-        self.facts.push(fact).map_err(|_| LineError::OutOfMemory)?;
+        self.facts.push(fact).map_err(AllocError::from)?;
         Ok(DONE)
     }
 
@@ -114,9 +115,7 @@ impl Session {
             }
         }
     }
-}
 
-impl Session {
     // Does the command that a line says: what is answered, if anything. A line that is no command changes nothing.
     pub fn answer(&mut self, heap: Global, line: &[u8]) -> Result<Option<Reply>, LineError>
         ensures { LineRan line.now (model_of self.old) (model_of self.new) result }
@@ -125,9 +124,6 @@ impl Session {
         self.run(heap, parse(text)?)
     }
 }
-
-// What is answered to a command that cannot be refused.
-const DONE: Option<Reply> = Some(Reply::Done);
 
 // Whether the numbers are a row.
 fn row_reply(numbers: Numbers) -> Reply

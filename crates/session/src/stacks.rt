@@ -26,7 +26,7 @@ impl ProofMethod for BaseMethod {
     }
 }
 
-// A method with no layer over it, or with one. It adds neither depth nor offset.
+// A method with no layer over it, or with one. It adds neither depth nor offset. An enum and no dyn value, since none may be made here and handed out.
 #[derive(Clone, Copy)]
 pub enum Layered<M> {
     Bare(M),

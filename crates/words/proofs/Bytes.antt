@@ -1,10 +1,10 @@
 -- Hexadecimal digits: what a word writes by cases, and the law that bytes written are read again.
-use Rattle.std.proofs.Common.{◌≡◌, ℕ, ◌+◌, ◌*◌, ◌/◌, ◌%◌, ◌<◌, Bool, true, false, cond, eqb, ◌⊎◌, List, [], ◌∷◌, length, Ok, Err, codes, Result, sym, refl, ap, ◌∙◌, inl, inr, ⊎_elim, arith}
+use Rattle.std.proofs.Common.{◌≡◌, ℕ, ◌+◌, ◌*◌, ◌/◌, ◌%◌, ◌<◌, Bool, true, false, cond, eqb, ◌⊎◌, List, [], ◌∷◌, ◌++◌, length, slice_index_or, Ok, Err, codes, is_ok, Result, sym, refl, ap, ◌∙◌, inl, inr, ⊎_elim, arith}
 use Rattle.std.specs.Char.{is_ascii_hexdigit, digit_value, digit_char}
 use Rattle.std.specs.List.{AllByRecursion}
 use Rattle.std.specs.Str.{bytes_eq}
 use Rattle.std.proofs.lemmas.Slice.Eq.{bytes_eq-Decides}
-use Rattle.std.proofs.lemmas.Bool.{cond-true, cond-false, eq-eqb, ne_eqb, eqb-true, cases_Bool, and_from, true≢false}
+use Rattle.std.proofs.lemmas.Bool.{cond-true, cond-false, eq-eqb, ne_eqb, eqb-true, cases_Bool, and_from, and_parts, true≢false}
 use Rattle.std.proofs.lemmas.Str.{digit_value-digit_char}
 use Rattle.std.proofs.lemmas.Bool.Decides.{nat_tests, not_from_Decides}
 use Rattle.words.specs.declared.errors.LineError.{LineError}
@@ -13,6 +13,17 @@ use Rattle.words.specs.Hex.{all_hex, pairs_of, digits_only, digit_bytes, hex_byt
 
 pub digit_small : (c : ℕ) → is_ascii_hexdigit c ≡ true → digit_value c < 16
 digit_small c h = grind (arith, nat_tests)
+
+-- one pair of digits more
+pub pairs_step : (pair behind : List ℕ) → length pair ≡ 2 → pairs_of (pair ++ behind) ≡ (16 * digit_value (slice_index_or pair 0 0) + digit_value (slice_index_or pair 1 0)) ∷ pairs_of behind
+pairs_step [] behind h = absurd (omega (arith, h))
+pairs_step (a ∷ []) behind h = absurd (omega (arith, h))
+pairs_step (a ∷ b ∷ []) behind h = refl
+pairs_step (a ∷ b ∷ c ∷ cs) behind h = absurd (omega (arith, h))
+
+pub hex_behind : (pair behind : List ℕ) → all_hex (pair ++ behind) ≡ true → all_hex behind ≡ true
+hex_behind [] behind h = h
+hex_behind (a ∷ cs) behind h = hex_behind cs behind ((and_parts _ _ h).1)
 
 -- a word by cases
 hex_dash : (w : List ℕ) → w ≡ codes "-" → hex_bytes w ≡ Ok []
@@ -57,19 +68,28 @@ module _ (w : List ℕ) (other : w ≡ codes "-" → ⊥) where
       digits : all_hex w ≡ true → (all_hex w ≡ true) × (length w % 2 ≡ 0)
       digits t = (t, ⊎_elim (λ e. eqb-true _ 0 e) (λ f. absurd (refuse OddHexDigits (hex_odd t (λ z. true≢false (sym (eq-eqb _ 0 z) ∙ f))))) (cases_Bool (eqb (length w % 2) 0)))
 
--- a word that was checked, as the code tells a dash from digits
+-- what writes bytes passes the check, and what passes it writes bytes
+pub readable_ok : {X : Type 0} (r : Result (List ℕ) LineError) (x : X) → is_ok r ≡ true → checked r x ≡ Ok x
+readable_ok (Ok bs) x h = refl
+readable_ok (Err e) x h = absurd (true≢false (sym h))
+
+pub checked_ok : (r : Result (List ℕ) LineError) → checked r (tt {0}) ≡ Ok tt → is_ok r ≡ true
+checked_ok (Ok bs) h = refl
+checked_ok (Err e) h = let z : ◌≡◌ {A = ℕ} 0 1 = cc in absurd (omega arith)
+
+-- a word that writes bytes, as the code tells a dash from digits
 pub dash_read : (w : List ℕ) → bytes_eq w (codes "-") ≡ true → hex_bytes w ≡ Ok []
 dash_read w e = hex_dash w ((bytes_eq-Decides w (codes "-")).0 e)
 
-module _ (w : List ℕ) (digits : bytes_eq w (codes "-") ≡ false) (fine : checked (hex_bytes w) (tt {0}) ≡ Ok tt) where
+module _ (w : List ℕ) (digits : bytes_eq w (codes "-") ≡ false) (fine : is_ok (hex_bytes w) ≡ true) where
   other : w ≡ codes "-" → ⊥
   other = not_from_Decides _ (bytes_eq-Decides w (codes "-")) digits
 
   pub digits_checked : all_hex w ≡ true
-  digits_checked = (hex_parts w other fine).0
+  digits_checked = (hex_parts w other (readable_ok (hex_bytes w) (tt {0}) fine)).0
 
   pub digits_read : hex_bytes w ≡ Ok (pairs_of w)
-  digits_read = let parts = hex_parts w other fine in hex_pairs w other parts.0 parts.1
+  digits_read = let parts = hex_parts w other (readable_ok (hex_bytes w) (tt {0}) fine) in hex_pairs w other parts.0 parts.1
 
 -- bytes that are written are read again
 char_hex : (d : ℕ) → d < 16 → is_ascii_hexdigit (digit_char d) ≡ true
@@ -120,11 +140,7 @@ only w bytes h =
 pub hex_reads : HexReads
 hex_reads = record { back = back; only = only }
 
--- one check, with another value where it passes
-pub rechecked_ok : {X : Type 0} (r : Result (List ℕ) LineError) (x : X) → checked r (tt {0}) ≡ Ok tt → checked r x ≡ Ok x
-rechecked_ok (Ok bs) x h = refl
-rechecked_ok (Err e) x h = let z : ◌≡◌ {A = ℕ} 0 1 = cc in absurd (omega arith)
-
+-- why the check fails is why nothing is read
 pub rechecked_err : {X : Type 0} (r : Result (List ℕ) LineError) (x : X) (s : Result X LineError) (e : LineError) → checked r (tt {0}) ≡ Err e → s ≡ Err e → s ≡ checked r x
 rechecked_err (Ok bs) x s e h k = let z : ◌≡◌ {A = ℕ} 0 1 = cc in absurd (omega arith)
 rechecked_err (Err f) x s e h k = let same : e ≡ f = cc in k ∙ ap Err same

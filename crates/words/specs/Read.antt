@@ -1,7 +1,6 @@
 -- What the types that borrow a part of the line hold, with the text in the place of the reference to it.
-use Rattle.std.specs.Prelude.{◌≡◌, ℕ, ◌⊎◌, List, Ok, Err, vec_items, Result, Vec}
+use Rattle.std.specs.Prelude.{ℕ, List, Ok, Err, Result}
 use Rattle.words.specs.declared.errors.LineError.{LineError}
-use Rattle.words.specs.declared.errors.LineError.TheVariants.{OutOfMemory}
 use Rattle.words.specs.declared.hex.Hex.{Hex}
 use Rattle.words.specs.declared.words.Words.{Words}
 use Rattle.words.specs.Words.{words_of}
@@ -14,8 +13,3 @@ word_in (Err e) = Err e
 -- the words that are left
 abbrev pub left : Words → List (List ℕ)
 left w = words_of w.rest.now
-
--- the bytes as they were read, or why there are none: no memory, or what was wrong with the word
-abbrev pub Decoded : {A : Type 0} → Result (Vec ℕ A) LineError → Result (List ℕ) LineError → Type 0
-Decoded (Ok v) h = h ≡ Ok (vec_items v)
-Decoded (Err e) h = (e ≡ OutOfMemory) ⊎ (h ≡ Err e)

@@ -15,10 +15,7 @@ impl<'a> Words<'a> {
     pub fn end(mut self) -> Result<(), LineError>
         ensures { result ≡ ended tt (left self.entry) }
     {
-        match self.next() {
-            Some(_) => Err(LineError::TooManyWords),
-            None => Ok(()),
-        }
+        self.next().map_or(Ok(()), |_| Err(LineError::TooManyWords))
     }
 
     // The next word as a number.

@@ -35,6 +35,7 @@ pub fn number(word: &str) -> Result<i64, LineError>
     ensures value { result ≡ number_of word.now }
     ensures decimals { DecimalsRead }
 {
+    // Tested before parsing: parse stops at the first digit past 64 bits, so its error cannot tell a long number from other text.
     if !is_number(word) {
         return Err(LineError::NotANumber);
     }

@@ -1,11 +1,9 @@
 -- A line by its first word.
-use Rattle.std.proofs.Common.{ok_or, sym, ap, ◌∙◌, arith}
-use Rattle.std.specs.Result.{result_ok}
+use Rattle.std.proofs.Common.{sym, ap, ◌∙◌, arith}
 use Rattle.std.proofs.lemmas.Str.Pattern.{starts_char}
 use Rattle.std.proofs.lemmas.Bool.Decides.{not_from_Decides}
-use Rattle.words.specs.declared.errors.LineError.TheVariants.{UnknownCommand}
 use Rattle.words.specs.Words.{words_of}
-use Rattle.commands.proofs.Parsing.{handed_on, line_none, line_comment, line_keyed, line_unknown}
+use Rattle.commands.proofs.Parsing.{handed_on, line_none, line_comment, line_known, line_unknown}
 use Rattle.commands.proofs.Said.{lines_read}
 use Rattle.commands.proofs.parser.parse.Goals as goal
 
@@ -22,8 +20,8 @@ returns c =
     let mark = starts_char 35 c.in-Some.first.now _ c.starts_with.ensures.cases (omega arith) (omega arith) in
     record {
       value = c.command.ensures
-          ∙ sym (line_keyed _ c.in-Some.first.now _ (ap words_of (sym c.new-words.ensures) ∙ c.in-Some.ensures.handed.0)
-          (not_from_Decides _ mark c.if-starts_with.false) _ (sym c.read.ensures ∙ c.ok_or.ensures.ok_part ∙ ap result_ok c.in_ok-keyword.was));
+          ∙ sym (line_known _ c.in-Some.first.now _ (ap words_of (sym c.new-words.ensures) ∙ c.in-Some.ensures.handed.0)
+          (not_from_Decides _ mark c.if-starts_with.false) _ (sym c.parse.ensures.value ∙ c.in_ok-keyword.was));
       law = lines_read;
     }
 
@@ -33,6 +31,6 @@ returns-in_err-keyword c =
     record {
       value = handed_on _ _ c.from_residual.ensures.1
           ∙ sym (line_unknown _ c.in-Some.first.now _ (ap words_of (sym c.new-words.ensures) ∙ c.in-Some.ensures.handed.0)
-          (not_from_Decides _ mark c.if-starts_with.false) _ (ap (λ o. ok_or o UnknownCommand) (sym c.read.ensures) ∙ sym c.ok_or.ensures.value ∙ c.in_err-keyword.was));
+          (not_from_Decides _ mark c.if-starts_with.false) _ (sym c.parse.ensures.value ∙ c.in_err-keyword.was));
       law = lines_read;
     }
