@@ -57,7 +57,8 @@ impl Session {
     fn sheet(&self, heap: Global) -> Result<Vec<Numbers>, AllocError>
         ensures { IfOk result (λ v. v.items ≡ sheet_of self.now.facts.items self.now.rows) }
     {
-        let mut sheet = Vec::from_slice(heap, &self.facts)?;
+        let held = self.facts.len().min(self.rows);
+        let mut sheet = Vec::from_slice(heap, &self.facts[..held])?;
         sheet.resize(self.rows, ZEROS)?;
         Ok(sheet)
     }
