@@ -12,7 +12,7 @@ use crate::method::ProofMethod;
 use crate::opening::opening;
 use rows::bytes::{number_at, word_at};
 use rows::limits::COLUMNS;
-use rows::{Answer, Fault, FaultKind, Numbers, TooLarge, WrittenRow};
+use rows::{Answer, Fault, FaultKind, Numbers, TooLarge, WrittenRow, check};
 use std::array::from_fn;
 
 // The certificate's first byte is 0 and the rest goes to the method below; or it is 1, and nine four-byte numbers of a
@@ -44,9 +44,10 @@ fn split_row(certificate: &[u8]) -> Result<WrittenRow, Fault>
     ensures { SplitMade certificate.now result }
 {
     let length = usize::from(word_at(certificate, LENGTH_FROM));
-    if certificate.len() < FIRST_FROM + length {
-        return Err(Fault::of(FaultKind::CertificateLength));
-    }
+    check(
+        FIRST_FROM + length <= certificate.len(),
+        Fault::of(FaultKind::CertificateLength),
+    )?;
     WrittenRow::new(split_numbers(certificate)).map_err(|TooLarge { item }| Fault {
         kind: FaultKind::LayerRowTooLarge,
         place: NUMBERS_FROM + 4 * usize::from(item),

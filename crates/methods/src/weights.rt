@@ -7,18 +7,18 @@ ghost use Rattle.std.proofs.Props.{props};
 
 use crate::limits::MOST_WEIGHT;
 use rows::bytes::word_at;
-use rows::{Fault, FaultKind, Numbers};
+use rows::{Fault, FaultKind, Numbers, check};
 
 // The number there, if it lies between `least` and the greatest multiplier.
 pub(crate) fn weight_at(bytes: &[u8], at: usize, least: u16) -> Result<u16, Fault>
     ensures { MatchResult result (λ n. (Ok tt ≡ range_says least bytes.now at) × (n ≡ word_at bytes.now at)) (λ f. Err f ≡ range_says least bytes.now at) }
 {
     let number = word_at(bytes, at);
-    if (least..=MOST_WEIGHT).contains(&number) {
-        Ok(number)
-    } else {
-        Err(Fault::at(FaultKind::MultiplierRange, at))
-    }
+    check(
+        (least..=MOST_WEIGHT).contains(&number),
+        Fault::at(FaultKind::MultiplierRange, at),
+    )?;
+    Ok(number)
 }
 
 // A few rows, and for each of them a multiplier in range, which stand in the certificate from an offset on: their sums
