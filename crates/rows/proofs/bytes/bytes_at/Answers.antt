@@ -29,5 +29,5 @@ pub returns : goal.returns
 returns g c =
     let long : length c.args.bytes.now < 2 ^ 64 = search rules in
     λ k l. each _ _ (λ i. get_or c.args.bytes.now (c.args.at + i) 0) (λ i y q e.
-        let s : y ≡ get_or c.args.bytes.now (min (c.args.at + i) (2 ^ 64 - 1)) 0 = search rules in
-        (search rules, s ∙ stopped c.args.bytes.now (c.args.at + i) long)) c.from_fn.result _ 0 _ refl c.from_fn.ensures.items.each k (omega arith) (omega (arith, l))
+    let s : y ≡ get_or c.args.bytes.now (min (c.args.at + i) (2 ^ 64 - 1)) 0 = search rules in
+    (search rules, s ∙ stopped c.args.bytes.now (c.args.at + i) long)) c.from_fn.result _ 0 _ refl c.from_fn.ensures.items.each k (omega arith) (omega (arith, l))

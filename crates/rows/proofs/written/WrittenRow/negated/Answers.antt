@@ -39,4 +39,4 @@ returns c =
     let cs = c.args.self.now.numbers.coefficients in
     let n : length cs ≡ columns = search rules in
     mapped _ _ neg_ℤ cs c.map.result columns (pos 0) n c.map.ensures.items (λ p q k y l e.
-        let t = turned_is _ (small c.args.self.now k l) in search (rules, t))
+    let t = turned_is _ (small c.args.self.now k l) in search (rules, t))
