@@ -27,6 +27,7 @@ pub(crate) fn weight_at(bytes: &[u8], at: usize, least: u16) -> Result<u16, Faul
 pub(crate) struct WeightedFacts<'a> {
     facts: &'a [Numbers],
     certificate: &'a [u8],
+    // Beside the whole certificate, not a part of it cut off here, since a fault names its place in the whole.
     from: usize,
     ghost weighable: { Weighable certificate.now from facts.now } by { Prim.hlevel props },
 }
@@ -42,7 +43,7 @@ impl<'a> WeightedFacts<'a> {
         requires inside { from + 2 * length facts.now ≤ length certificate.now }
         ensures { MatchResult result (λ w. (Ok tt ≡ weights_say certificate.now from facts.now) × (w.facts.now ≡ facts.now) × (w.certificate.now ≡ certificate.now) × (w.from ≡ from)) (λ f. Err f ≡ weights_say certificate.now from facts.now) }
     {
-        for (index, _fact) in facts.iter().enumerate() {
+        for index in 0..facts.len() {
             weight_at(certificate, from + 2 * index, 0)?;
         }
         Ok(WeightedFacts {
