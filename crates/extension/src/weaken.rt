@@ -62,7 +62,7 @@ fn lowered_goal(goal: &Row, certificate: &[u8]) -> Result<Numbers, Fault>
 
 impl<M: ProofMethod> Weaken<M> {
     // The layer's own part of a question: the method below is asked about the goal with a lower bound.
-    // What it asks of count and sheet stands in no struct of both, since each layer lends the sheet on with another count.
+    // What is asked of count and sheet stands in no struct of both: each layer lends the sheet on with another count.
     #[tactic(auto, using(methods::proofs::Asked::asked_within), unfolding(crate::specs::Weakens::weaken_own))]
     fn own(&self, sheet: &mut [Numbers], claim: Claim<'_>, goal: &Row) -> Answer
         requires { claim.count ≤ length sheet.old }

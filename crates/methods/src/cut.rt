@@ -104,7 +104,7 @@ fn cut_row(facts: &[Numbers], certificate: &[u8]) -> Result<Numbers, Fault>
 
 impl<M: ProofMethod> Cut<M> {
     // The layer's own part of a question: the row is made and becomes the last fact below.
-    // What it asks of count and sheet stands in no struct of both, since each layer lends the sheet on with another count.
+    // What is asked of count and sheet stands in no struct of both: each layer lends the sheet on with another count.
     #[tactic(auto, using(crate::proofs::CutAnswers::own_no_row, crate::proofs::CutAnswers::own_asked_lem))]
     fn own(&self, sheet: &mut [Numbers], claim: Claim<'_>) -> Answer
         requires { Ok tt ≡ opening_asked claim.count sheet.old claim.goal.now }

@@ -70,7 +70,7 @@ pub fn ask_below<M: ProofMethod>(
 }
 
 // The same with one more fact, which is put behind the others.
-// What it asks of count and sheet stands in no struct of both, since each layer lends the sheet on with another count.
+// What is asked of count and sheet stands in no struct of both: each layer lends the sheet on with another count.
 #[tactic(auto, using(crate::proofs::Handing::kept_under))]
 pub(crate) fn ask_with_fact<M: ProofMethod>(
     below: &M,

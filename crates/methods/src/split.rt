@@ -61,7 +61,7 @@ fn split_row(certificate: &[u8]) -> Result<WrittenRow, Fault>
 impl<M: ProofMethod> Split<M> {
     // The answer below with the row as one more fact, by the first certificate, which ends where the second begins; and
     // after a yes the answer with the row's opposite, by the second.
-    // What it asks of count and sheet stands in no struct of both, since each layer lends the sheet on with another count.
+    // What is asked of count and sheet stands in no struct of both: each layer lends the sheet on with another count.
     fn ask_both(
         &self,
         sheet: &mut [Numbers],
