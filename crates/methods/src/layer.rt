@@ -43,6 +43,7 @@ pub(crate) fn room_test(count: usize, rows: usize) -> Answer
 }
 
 // Puts the claim to the method below by the certificate from an offset on; a fault moves by the offset.
+// Apart from `ask_below`: inside it the clause `answer` stayed open, since no search applied the lemma on places.
 fn put_below<M: ProofMethod>(
     below: &M,
     sheet: &mut [Numbers],
