@@ -1,7 +1,9 @@
 // Making a written row, meeting it at a point, and its opposite.
+ghost use Rattle.rows.specs.Limits.{magnitude_of};
 ghost use Rattle.rows.specs.Shapes.{Meets, opposite_of};
 ghost use Rattle.rows.specs.WrittenMade.{WrittenFrom, TurnsRound};
-ghost use Rattle.std.specs.Prelude.{◌≡◌, map, pos, ◌-ℤ◌, neg_ℤ, Decides};
+ghost use Rattle.rows.specs.declared.limits.Limit.TheVariants.{WrittenNumber};
+ghost use Rattle.std.specs.Prelude.{◌≡◌, map, pos, ◌-ℤ◌, neg_ℤ, ◌≤ℤ◌, Decides};
 
 use crate::limits::{COLUMNS, Limit};
 use crate::numbers::{Numbers, TooLarge};
@@ -49,7 +51,7 @@ impl WrittenRow {
     fn negated(&self) -> [i64; COLUMNS]
         ensures { result ≡ map neg_ℤ self.now.numbers.coefficients }
     {
-        self.numbers.coefficients.map(|number| -number)
+        self.numbers.coefficients.map(turned)
     }
 
     // The opposite's bound.
@@ -58,4 +60,13 @@ impl WrittenRow {
     {
         -self.numbers.bound - 1
     }
+}
+
+// A number with its sign turned.
+// A function that asks, since it is handed bare numbers of the row; as a closure its value is a goal of `negated` alone.
+fn turned(number: i64) -> i64
+    requires { (neg_ℤ (pos (magnitude_of WrittenNumber)) ≤ℤ number) × (number ≤ℤ pos (magnitude_of WrittenNumber)) }
+    ensures { result ≡ neg_ℤ number }
+{
+    -number
 }
