@@ -63,7 +63,7 @@ impl WrittenRow {
 }
 
 // A number with its sign turned.
-// A function that asks, since it is handed bare numbers of the row; as a closure its value is a goal of `negated` alone.
+// A function that asks, since `map` hands it bare numbers; as a closure its value would be a goal of `negated` alone.
 fn turned(number: i64) -> i64
     requires { (neg_ℤ (pos (magnitude_of WrittenNumber)) ≤ℤ number) × (number ≤ℤ pos (magnitude_of WrittenNumber)) }
     ensures { result ≡ neg_ℤ number }
