@@ -28,16 +28,12 @@ const LOWER_FROM: usize = 5;
 fn slack_test(slack: i64) -> Answer
     ensures { result ≡ slack_says slack }
 {
-    let too_large = Fault {
-        kind: FaultKind::LayerRowTooLarge,
-        place: SLACK_FROM,
-        depth: 0,
-        item: BOUND_ITEM,
-    };
+    let too_large = Fault::new(FaultKind::LayerRowTooLarge, SLACK_FROM, BOUND_ITEM);
     check((0..=WRITTEN_LIMIT).contains(&slack), too_large)
 }
 
 // A bound lowered by a number.
+// A function of its own, so that the bounds that it asks show that the difference does not overflow.
 fn lowered_bound(bound: i64, slack: i64) -> i64
     requires bound { (neg_ℤ (pos (magnitude_of RowNumber)) ≤ℤ bound) × (bound ≤ℤ pos (magnitude_of RowNumber)) }
     requires slack { (pos 0 ≤ℤ slack) × (slack ≤ℤ pos (magnitude_of WrittenNumber)) }
@@ -66,6 +62,7 @@ fn lowered_goal(goal: &Row, certificate: &[u8]) -> Result<Numbers, Fault>
 
 impl<M: ProofMethod> Weaken<M> {
     // The layer's own part of a question: the method below is asked about the goal with a lower bound.
+    // What is asked of count and sheet stands in no struct of both: each layer lends the sheet on with another count.
     #[tactic(auto, using(methods::proofs::Asked::asked_within), unfolding(crate::specs::Weakens::weaken_own))]
     fn own(&self, sheet: &mut [Numbers], claim: Claim<'_>, goal: &Row) -> Answer
         requires { claim.count ≤ length sheet.old }
@@ -93,6 +90,7 @@ impl<M: ProofMethod> ProofMethod for Weaken<M> {
     {
         claim.facts(sheet)?;
         let goal = Row::new(*claim.goal)?;
+        // Not shared by the three layers: a public helper may ask nothing of its callers, and one with a closure would.
         match FirstByte::read(claim.certificate)? {
             FirstByte::HandDown => ask_below(&self.below, sheet, claim, 1),
             FirstByte::Own => self.own(sheet, claim, &goal),

@@ -38,10 +38,9 @@ fn first_used(goal: &Numbers) -> Option<usize>
 fn columns_test(goal: &Numbers) -> Answer
     ensures { result ≡ unless_found ColumnDiffers (first_below (uses goal.now) columns) }
 {
-    match first_used(goal) {
-        None => Ok(()),
-        Some(column) => Err(Fault::with_item(FaultKind::ColumnDiffers, column as u8)),
-    }
+    first_used(goal).map_or(Ok(()), |column| {
+        Err(Fault::with_item(FaultKind::ColumnDiffers, column as u8))
+    })
 }
 
 // The method's tests: no byte, no column used, no bound below zero.

@@ -32,6 +32,11 @@ row_from_ok numbers row h = sym (row_ok numbers h.1)
 pub row_from_err : (numbers : Numbers) (f : Fault) → RowFrom numbers (Err f) → Err f ≡ row_says numbers
 row_from_err numbers f h = ap (λ (x : Fault). Err x) h.0 ∙ sym (row_err numbers f.item h.1)
 
+-- the row made of the numbers, given up for a yes
+pub row_tested : (numbers : Numbers) (made : Result Row Fault) (said : Said) → RowFrom numbers made → MatchResult made (λ row. said ≡ Ok tt) (λ f. said ≡ Err f) → said ≡ row_says numbers
+row_tested numbers (Ok row) said h e = e ∙ row_from_ok numbers row h
+row_tested numbers (Err f) said h e = e ∙ row_from_err numbers f h
+
 -- a refusal that becomes a fault of that item
 module _ (kind : FaultKind) where
   found_fault : (found : Option ℕ) (said : Said) → MatchResult (unless_beyond found) (λ u. said ≡ Ok u) (λ e. IsErrAnd said (λ f. f ≡ fault_of kind 0 0 e.item)) → said ≡ unless_found kind found

@@ -1,8 +1,8 @@
 -- The row of a split, and its own part: what each way through its code answers.
-use Rattle.std.proofs.Common.{◌≡◌, ℕ, ◌<◌, ◌≤◌, not, ◌&&◌, ltb, List, [], ◌∷◌, ◌++◌, length, take, drop, Ok, Err, Result, sym, ap, ◌∙◌, subst}
+use Rattle.std.proofs.Common.{◌≡◌, ℕ, ◌≤◌, not, ◌&&◌, ltb, leb, List, [], ◌∷◌, ◌++◌, length, take, drop, Ok, Err, Result, sym, ap, ◌∙◌, subst}
 use Rattle.std.specs.Result.{MatchResult, IsErrAnd}
 use Rattle.std.proofs.lemmas.List.{drop-take}
-use Rattle.std.proofs.lemmas.Bool.{le-leb, lt-leb}
+use Rattle.std.proofs.lemmas.Bool.{le-leb}
 use Rattle.rows.specs.declared.fault.Fault.{Fault}
 use Rattle.rows.specs.declared.fault.FaultKind.TheVariants.{CertificateLength, LayerRowTooLarge, NoRoomForFact}
 use Rattle.rows.specs.declared.limits.Limit.TheVariants.{WrittenNumber}
@@ -14,7 +14,7 @@ use Rattle.rows.specs.Limits.{items, magnitude_of}
 use Rattle.rows.specs.Made.{FirstOver}
 use Rattle.rows.specs.WrittenMade.{WrittenFrom}
 use Rattle.rows.specs.Shapes.{Within, beyond, first_beyond, opposite_of}
-use Rattle.rows.proofs.Chains.{stops, goes, checked, failed}
+use Rattle.rows.proofs.Chains.{stops, goes, checked}
 use Rattle.rows.proofs.First.{none_first, some_first}
 use Rattle.methods.specs.Openings.{most_facts, opening_asked}
 use Rattle.methods.specs.Questions.{question, Meaning}
@@ -24,9 +24,9 @@ use Rattle.methods.proofs.Asked.{opening_passed}
 use Rattle.methods.proofs.LayerAnswers.{room_count}
 
 module _ (certificate : List ℕ) where
-  pub row_short : length certificate < second_from certificate → Err (fault_of CertificateLength 0 0 0) ≡ split_tests certificate
+  pub row_short : (end : ℕ) (f : Fault) → end ≡ second_from certificate → Err f ≡ check (leb end (length certificate)) (fault_of CertificateLength 0 0 0) → Err f ≡ split_tests certificate
   unfolding split_tests
-  row_short l = stops _ _ _ (failed _ _ (lt-leb _ _ l))
+  row_short end f e h = stops _ _ f (h ∙ ap (λ (n : ℕ). check (leb n (length certificate)) (fault_of CertificateLength 0 0 0)) e)
 
   pub row_written : (numbers : Numbers) → second_from certificate ≤ length certificate → numbers ≡ split_row certificate → Within (magnitude_of WrittenNumber) numbers → Ok tt ≡ split_tests certificate
   unfolding split_tests first_beyond

@@ -9,6 +9,7 @@ use rows::{Fault, FaultKind, Numbers};
 // that is greater than the number of the sheet's rows is refused.
 #[derive(Clone, Copy)]
 pub struct Claim<'a> {
+    // Not in a struct with the sheet, since each layer lends the same sheet on with another count.
     pub count: usize,
     pub goal: &'a Numbers,
     pub certificate: &'a [u8],

@@ -13,8 +13,9 @@ pub(crate) fn columns_test<F: Fn(usize) -> bool>(differs: F) -> Answer
     requires { F.IsAlwaysCallable differs }
     ensures { (test : ℕ → Bool) → ((k : ℕ) (r : Bool) → k < columns → F.post differs k r → r ≡ test k) → result ≡ unless_found ColumnDiffers (first_below test columns) }
 {
-    match (0..COLUMNS).find(|column| differs(*column)) {
-        None => Ok(()),
-        Some(column) => Err(Fault::with_item(FaultKind::ColumnDiffers, column as u8)),
-    }
+    (0..COLUMNS)
+        .find(|column| differs(*column))
+        .map_or(Ok(()), |column| {
+            Err(Fault::with_item(FaultKind::ColumnDiffers, column as u8))
+        })
 }

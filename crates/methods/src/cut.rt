@@ -72,6 +72,7 @@ impl DividedFacts<'_> {
     fn row(&self) -> Numbers
         ensures { result ≡ cut_row self.now.weighted.facts.now self.now.weighted.certificate.now }
     {
+        // No shared function of a closure over the items: it would be public in rows, and public functions ask nothing.
         Numbers {
             coefficients: from_fn(|column| self.quotient(column)),
             bound: self.bound(),
@@ -103,6 +104,7 @@ fn cut_row(facts: &[Numbers], certificate: &[u8]) -> Result<Numbers, Fault>
 
 impl<M: ProofMethod> Cut<M> {
     // The layer's own part of a question: the row is made and becomes the last fact below.
+    // What is asked of count and sheet stands in no struct of both: each layer lends the sheet on with another count.
     #[tactic(auto, using(crate::proofs::CutAnswers::own_no_row, crate::proofs::CutAnswers::own_asked_lem))]
     fn own(&self, sheet: &mut [Numbers], claim: Claim<'_>) -> Answer
         requires { Ok tt ≡ opening_asked claim.count sheet.old claim.goal.now }
@@ -127,6 +129,7 @@ impl<M: ProofMethod> ProofMethod for Cut<M> {
         ensures exactly { YesExactly result (CutYes (M.ProofMethod.meaning self.now.below)) claim.entry.count sheet.old claim.entry.goal.now claim.entry.certificate.now }
     {
         opening(claim, sheet)?;
+        // Not shared by the three layers: a public helper may ask nothing of its callers, and one with a closure would.
         match FirstByte::read(claim.certificate)? {
             FirstByte::HandDown => ask_below(&self.below, sheet, claim, 1),
             FirstByte::Own => self.own(sheet, claim),

@@ -43,6 +43,7 @@ pub(crate) fn room_test(count: usize, rows: usize) -> Answer
 }
 
 // Puts the claim to the method below by the certificate from an offset on; a fault moves by the offset.
+// Apart from `ask_below`: inside it the clause `answer` stayed open, since no search applied the lemma on places.
 fn put_below<M: ProofMethod>(
     below: &M,
     sheet: &mut [Numbers],
@@ -70,6 +71,7 @@ pub fn ask_below<M: ProofMethod>(
 }
 
 // The same with one more fact, which is put behind the others.
+// What is asked of count and sheet stands in no struct of both: each layer lends the sheet on with another count.
 #[tactic(auto, using(crate::proofs::Handing::kept_under))]
 pub(crate) fn ask_with_fact<M: ProofMethod>(
     below: &M,

@@ -12,7 +12,7 @@ use crate::method::ProofMethod;
 use crate::opening::opening;
 use rows::bytes::{number_at, word_at};
 use rows::limits::COLUMNS;
-use rows::{Answer, Fault, FaultKind, Numbers, TooLarge, WrittenRow};
+use rows::{Answer, Fault, FaultKind, Numbers, TooLarge, WrittenRow, check};
 use std::array::from_fn;
 
 // The certificate's first byte is 0 and the rest goes to the method below; or it is 1, and nine four-byte numbers of a
@@ -33,6 +33,7 @@ const FIRST_FROM: usize = 39;
 fn split_numbers(certificate: &[u8]) -> Numbers
     ensures { result ≡ split_row certificate.now }
 {
+    // No shared function of a closure over the items: it would be public in rows, and public functions ask nothing.
     Numbers {
         coefficients: from_fn(|column| number_at(certificate, NUMBERS_FROM + 4 * column)),
         bound: number_at(certificate, NUMBERS_FROM + 4 * COLUMNS),
@@ -44,20 +45,23 @@ fn split_row(certificate: &[u8]) -> Result<WrittenRow, Fault>
     ensures { SplitMade certificate.now result }
 {
     let length = usize::from(word_at(certificate, LENGTH_FROM));
-    if certificate.len() < FIRST_FROM + length {
-        return Err(Fault::of(FaultKind::CertificateLength));
-    }
-    WrittenRow::new(split_numbers(certificate)).map_err(|TooLarge { item }| Fault {
-        kind: FaultKind::LayerRowTooLarge,
-        place: NUMBERS_FROM + 4 * usize::from(item),
-        depth: 0,
-        item,
+    check(
+        FIRST_FROM + length <= certificate.len(),
+        Fault::of(FaultKind::CertificateLength),
+    )?;
+    WrittenRow::new(split_numbers(certificate)).map_err(|TooLarge { item }| {
+        Fault::new(
+            FaultKind::LayerRowTooLarge,
+            NUMBERS_FROM + 4 * usize::from(item),
+            item,
+        )
     })
 }
 
 impl<M: ProofMethod> Split<M> {
     // The answer below with the row as one more fact, by the first certificate, which ends where the second begins; and
     // after a yes the answer with the row's opposite, by the second.
+    // What is asked of count and sheet stands in no struct of both: each layer lends the sheet on with another count.
     fn ask_both(
         &self,
         sheet: &mut [Numbers],
@@ -103,6 +107,7 @@ impl<M: ProofMethod> ProofMethod for Split<M> {
         ensures exactly { YesExactly result (SplitYes (M.ProofMethod.meaning self.now.below)) claim.entry.count sheet.old claim.entry.goal.now claim.entry.certificate.now }
     {
         opening(claim, sheet)?;
+        // Not shared by the three layers: a public helper may ask nothing of its callers, and one with a closure would.
         match FirstByte::read(claim.certificate)? {
             FirstByte::HandDown => ask_below(&self.below, sheet, claim, 1),
             FirstByte::Own => self.own(sheet, claim),

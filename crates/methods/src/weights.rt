@@ -7,18 +7,18 @@ ghost use Rattle.std.proofs.Props.{props};
 
 use crate::limits::MOST_WEIGHT;
 use rows::bytes::word_at;
-use rows::{Fault, FaultKind, Numbers};
+use rows::{Fault, FaultKind, Numbers, check};
 
 // The number there, if it lies between `least` and the greatest multiplier.
 pub(crate) fn weight_at(bytes: &[u8], at: usize, least: u16) -> Result<u16, Fault>
     ensures { MatchResult result (λ n. (Ok tt ≡ range_says least bytes.now at) × (n ≡ word_at bytes.now at)) (λ f. Err f ≡ range_says least bytes.now at) }
 {
     let number = word_at(bytes, at);
-    if (least..=MOST_WEIGHT).contains(&number) {
-        Ok(number)
-    } else {
-        Err(Fault::at(FaultKind::MultiplierRange, at))
-    }
+    check(
+        (least..=MOST_WEIGHT).contains(&number),
+        Fault::at(FaultKind::MultiplierRange, at),
+    )?;
+    Ok(number)
 }
 
 // A few rows, and for each of them a multiplier in range, which stand in the certificate from an offset on: their sums
@@ -27,6 +27,7 @@ pub(crate) fn weight_at(bytes: &[u8], at: usize, least: u16) -> Result<u16, Faul
 pub(crate) struct WeightedFacts<'a> {
     facts: &'a [Numbers],
     certificate: &'a [u8],
+    // Beside the whole certificate, not a part of it cut off here, since a fault names its place in the whole.
     from: usize,
     ghost weighable: { Weighable certificate.now from facts.now } by { Prim.hlevel props },
 }
@@ -42,7 +43,7 @@ impl<'a> WeightedFacts<'a> {
         requires inside { from + 2 * length facts.now ≤ length certificate.now }
         ensures { MatchResult result (λ w. (Ok tt ≡ weights_say certificate.now from facts.now) × (w.facts.now ≡ facts.now) × (w.certificate.now ≡ certificate.now) × (w.from ≡ from)) (λ f. Err f ≡ weights_say certificate.now from facts.now) }
     {
-        for (index, _fact) in facts.iter().enumerate() {
+        for index in 0..facts.len() {
             weight_at(certificate, from + 2 * index, 0)?;
         }
         Ok(WeightedFacts {

@@ -8,6 +8,7 @@ use crate::limits::COLUMNS;
 use crate::numbers::Numbers;
 
 // Eight coefficients and a constant, all written numbers: the sum of coefficient × value, and the constant.
+// No `WrittenRow`, since a constant is added and a bound compared: of one type, each could stand in the other's place.
 #[derive(Clone, Copy)]
 pub struct Expression {
     coefficients: [i64; COLUMNS],

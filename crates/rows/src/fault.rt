@@ -81,6 +81,7 @@ impl FaultKind {
 }
 
 // A refusal: what is wrong, and where. `place`, `depth` and `item` are zero where the kind does not name them.
+// All four stand in every fault, not in the variants of an enum, since all four are printed with each refusal.
 #[derive(Clone, Copy, PartialEq, Eq, Debug)]
 pub struct Fault {
     pub kind: FaultKind,
@@ -91,7 +92,7 @@ pub struct Fault {
 
 impl Fault {
     // A fault at a byte and an item; no layer lies above it.
-    fn new(kind: FaultKind, place: usize, item: u8) -> Fault
+    pub fn new(kind: FaultKind, place: usize, item: u8) -> Fault
         ensures { result ≡ fault_of kind place 0 item }
     {
         Fault {

@@ -30,6 +30,7 @@ impl Numbers {
     }
 
     // The lowest item whose number passes the limit, as an index.
+    // Apart from `first_beyond`, so that what it says of its index shows that the index fits a `u8` there.
     fn index_beyond(&self, limit: Limit) -> Option<usize>
         ensures found { result ≡ find (beyond (magnitude_of limit) self.now) (range_with_len 0 items) }
         ensures within { IfSome result (λ item. item < items) }
@@ -50,9 +51,7 @@ impl Numbers {
         ensures value { result ≡ unless_beyond (first_beyond (magnitude_of limit) self.now) }
         ensures first { HeldTo (magnitude_of limit) self.now result }
     {
-        match self.first_beyond(limit) {
-            None => Ok(()),
-            Some(item) => Err(TooLarge { item }),
-        }
+        self.first_beyond(limit)
+            .map_or(Ok(()), |item| Err(TooLarge { item }))
     }
 }

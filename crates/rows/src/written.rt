@@ -8,7 +8,7 @@ use crate::numbers::Numbers;
 
 // A row whose numbers are written numbers, none outside ±1,000,000: what stands in a table, a witness, an added row or
 // a split.
-// Not one type with `Row` over a constant limit: the two share only `numbers`, and are refused by different errors.
+// Not one type with `Row`: that one's `new` answers a Fault, this one's a TooLarge, whose place only the caller knows.
 #[derive(Clone, Copy)]
 pub struct WrittenRow {
     numbers: Numbers,

@@ -49,6 +49,7 @@ impl Expression {
 }
 
 // A sum of products and a constant.
+// A function of its own, so that the bounds that it asks show that the sum does not overflow.
 fn raised_by(sum: i64, constant: i64) -> i64
     requires sum { (neg_ℤ (pos dot_limit) ≤ℤ sum) × (sum ≤ℤ pos dot_limit) }
     requires constant { (neg_ℤ (pos dot_limit) ≤ℤ constant) × (constant ≤ℤ pos dot_limit) }

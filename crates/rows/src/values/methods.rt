@@ -36,6 +36,7 @@ impl Point {
         ensures value { result ≡ dot_of coefficients.now self.now.values }
         ensures within { (neg_ℤ (pos dot_limit) ≤ℤ result) × (result ≤ℤ pos dot_limit) }
     {
+        // A loop, since the proof finds no bound for a signed `sum` of a chain.
         let mut sum: i64 = 0;
         for (coefficient, value) in coefficients.iter().zip(self.values.iter()) {
             sum += *coefficient * *value;

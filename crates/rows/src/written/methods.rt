@@ -1,6 +1,5 @@
 // Making a written row, meeting it at a point, and its opposite.
 ghost use Rattle.rows.specs.Limits.{magnitude_of};
-ghost use Rattle.rows.specs.Points.{ValuesWithin};
 ghost use Rattle.rows.specs.Shapes.{Meets, opposite_of};
 ghost use Rattle.rows.specs.WrittenMade.{WrittenFrom, TurnsRound};
 ghost use Rattle.rows.specs.declared.limits.Limit.TheVariants.{WrittenNumber};
@@ -42,33 +41,32 @@ impl WrittenRow {
         ensures turned { TurnsRound self.now.numbers result.numbers }
     {
         let numbers = Numbers {
-            coefficients: negated(self.numbers.coefficients),
-            bound: turned_bound(self.numbers.bound),
+            coefficients: self.negated(),
+            bound: self.turned_bound(),
         };
         Row::within_limit(numbers)
     }
-}
 
-// The opposite's bound.
-fn turned_bound(bound: i64) -> i64
-    requires { (neg_ℤ (pos (magnitude_of WrittenNumber)) ≤ℤ bound) × (bound ≤ℤ pos (magnitude_of WrittenNumber)) }
-    ensures { result ≡ neg_ℤ bound -ℤ pos 1 }
-{
-    -bound - 1
+    // Every coefficient with its sign turned.
+    fn negated(&self) -> [i64; COLUMNS]
+        ensures { result ≡ map neg_ℤ self.now.numbers.coefficients }
+    {
+        self.numbers.coefficients.map(turned)
+    }
+
+    // The opposite's bound.
+    fn turned_bound(&self) -> i64
+        ensures { result ≡ neg_ℤ self.now.numbers.bound -ℤ pos 1 }
+    {
+        -self.numbers.bound - 1
+    }
 }
 
 // A number with its sign turned.
+// A function that asks, since `map` hands it bare numbers; as a closure its value would be a goal of `negated` alone.
 fn turned(number: i64) -> i64
     requires { (neg_ℤ (pos (magnitude_of WrittenNumber)) ≤ℤ number) × (number ≤ℤ pos (magnitude_of WrittenNumber)) }
     ensures { result ≡ neg_ℤ number }
 {
     -number
-}
-
-// Every number with its sign turned.
-fn negated(numbers: [i64; COLUMNS]) -> [i64; COLUMNS]
-    requires { ValuesWithin (magnitude_of WrittenNumber) numbers }
-    ensures { result ≡ map neg_ℤ numbers }
-{
-    numbers.map(turned)
 }
