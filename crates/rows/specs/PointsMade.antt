@@ -2,13 +2,9 @@
 use Rattle.std.specs.Prelude.{◌≡◌, ℕ, List, ℤ, Some, None, Option}
 use Rattle.rows.specs.declared.limits.Limit.TheVariants.{StateValue}
 use Rattle.rows.specs.declared.values.Values.{Values}
-use Rattle.rows.specs.Limits.{columns, magnitude_of}
+use Rattle.rows.specs.Limits.{magnitude_of}
 use Rattle.rows.specs.Points.{WithinFirst}
 
 abbrev pub ValuesFrom : (n : ℕ) → List ℤ → Option (Values n) → Type 0
 ValuesFrom n values (Some x) = (x.values ≡ values) × WithinFirst n (magnitude_of StateValue) values
 ValuesFrom n values None = WithinFirst n (magnitude_of StateValue) values → ⊥
-
--- a value for each column
-abbrev pub PointFrom : List ℤ → Option (Values columns) → Type 0
-PointFrom values made = ValuesFrom columns values made
