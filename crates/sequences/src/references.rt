@@ -15,7 +15,7 @@ use crate::view::TableView;
 use crate::witness::{
     COUNT_FROM, NUMBER_FROM, Noted, ROWS_FROM, TRANSITION_BYTES, WitnessPiece, WitnessReader,
 };
-use records::{BoundedList, Transition};
+use records::{BoundedList, Transition, with_number};
 use rows::bytes::{byte_at, word_at};
 use rows::{Answer, FaultKind, check};
 
@@ -31,8 +31,7 @@ impl Named<'_> {
     fn transition(self, number: u16) -> Option<Transition>
         ensures { option_map transition_of result ≡ first_with (λ (t : TransitionData). t.number) number (transitions_in self.entry.table) }
     {
-        let mut transitions = self.table.transitions.iter();
-        transitions.find(|t| t.number == number).copied()
+        with_number(self.table.transitions, number).copied()
     }
 
     // Whether a plan entry of a place fits: its transition is in the table, starts at the place and is declared inner.
