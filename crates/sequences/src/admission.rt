@@ -11,7 +11,7 @@ ghost use Rattle.formats.specs.Exact.{WitnessExactly};
 ghost use Rattle.formats.specs.Placed.{Placed};
 ghost use Rattle.formats.specs.Witnesses.{pieces_say, witness_at, numbers_in, content_says, witness_says, witness_memory_says, admit_says};
 
-use crate::pieces::{PIECES_FROM, version_test};
+use crate::pieces::version_test;
 use crate::references::references_test;
 use crate::view::TableView;
 use crate::witness::{Noted, WitnessReader, WitnessRecord, pieces_test};
@@ -55,10 +55,7 @@ fn fill(
     ensures inners { map inner_of (held inners.new) ≡ (witness_at (shape_of (heading_of heading.now)) bytes.now).inners }
     ensures inners_behind { behind inners.new ≡ drop (length (held inners.new)) (behind inners.old) }
 {
-    let mut reader = WitnessReader {
-        bytes,
-        at: PIECES_FROM,
-    };
+    let mut reader = WitnessReader::at_pieces(bytes);
     let mut noted = Noted::new();
     while let Some(piece) = reader.next()? {
         let found = noted.read(piece, heading)?;

@@ -10,7 +10,6 @@ ghost use Rattle.std.specs.Option.{option_map};
 
 use crate::named::Named;
 use crate::piece::Piece;
-use crate::pieces::PIECES_FROM;
 use crate::view::TableView;
 use crate::witness::{
     COUNT_FROM, NUMBER_FROM, Noted, ROWS_FROM, TRANSITION_BYTES, WitnessPiece, WitnessReader,
@@ -91,10 +90,7 @@ pub(crate) fn references_test(bytes: &[u8], table: TableView<'_>, noted: &Noted)
     requires { Ok tt ≡ pieces_say (shape_in table) bytes.now }
     ensures { result ≡ references_say (shape_in table.entry) (named_in (transitions_in table.entry) (progress_of noted.now)) (pieces_of bytes.now) }
 {
-    let mut reader = WitnessReader {
-        bytes,
-        at: PIECES_FROM,
-    };
+    let mut reader = WitnessReader::at_pieces(bytes);
     let named = Named { table, noted };
     while let Some(piece) = reader.next()? {
         named.reference_test(piece)?;

@@ -201,10 +201,17 @@ impl<'a> WitnessReader<'a> {
         ensures { plainly reader_of result ≡ giving (version_says WitnessVersion bytes.now) (standing bytes.now pieces_from) }
     {
         version_test(bytes, FaultKind::WitnessVersion)?;
-        Ok(WitnessReader {
+        Ok(WitnessReader::at_pieces(bytes))
+    }
+
+    // A reader that stands at the first piece of bytes whose version has been tested.
+    pub(crate) fn at_pieces(bytes: &'a [u8]) -> WitnessReader<'a>
+        ensures { reader_of result ≡ standing bytes.now pieces_from }
+    {
+        WitnessReader {
             bytes,
             at: PIECES_FROM,
-        })
+        }
     }
 
     // The next piece, if bytes are left. After a fault the reader stands where it stood.
@@ -262,10 +269,7 @@ impl Noted {
 pub(crate) fn pieces_test(bytes: &[u8], heading: &Heading) -> Result<Noted, Fault>
     ensures { plainly progress_of result ≡ giving (pieces_say (shape_of (heading_of heading.now)) bytes.now) (numbers_in (witness_at (shape_of (heading_of heading.now)) bytes.now)) }
 {
-    let mut reader = WitnessReader {
-        bytes,
-        at: PIECES_FROM,
-    };
+    let mut reader = WitnessReader::at_pieces(bytes);
     let mut noted = Noted::new();
     while let Some(piece) = reader.next()? {
         noted.read(piece, heading)?;
