@@ -50,11 +50,9 @@ impl Piece<'_> {
         ensures { result ≡ giving (count_says kind self.entry.offset self.entry.rest.now at least most) (byte_at self.entry.rest.now at) }
     {
         let count = byte_at(self.rest, at);
-        if (least..=most).contains(&usize::from(count)) {
-            Ok(count)
-        } else {
-            Err(self.fault(kind, at))
-        }
+        let fits = (least..=most).contains(&usize::from(count));
+        check(fits, self.fault(kind, at))?;
+        Ok(count)
     }
 
     // The number in two bytes of the rest, which is greater than another.
@@ -63,10 +61,7 @@ impl Piece<'_> {
         ensures { result ≡ giving (above_says kind self.entry.offset self.entry.rest.now at least) (word_at self.entry.rest.now at) }
     {
         let number = word_at(self.rest, at);
-        if least < number {
-            Ok(number)
-        } else {
-            Err(self.fault(kind, at))
-        }
+        check(least < number, self.fault(kind, at))?;
+        Ok(number)
     }
 }
