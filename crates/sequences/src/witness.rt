@@ -48,11 +48,11 @@ fn tested_from(
         transition: 0,
         test: WrittenRow::zero(),
     });
-    let stride = TRANSITION_BYTES + shape.over_values().stride();
+    let plain = shape.over_values();
+    let stride = TRANSITION_BYTES + plain.stride();
     // `i` counts entries and indexes no list: offsets by `step_by` read no plainer.
     for i in 0..count {
         let at = from + stride * i;
-        let plain = shape.over_values();
         let test = row_at(
             piece,
             plain,
@@ -80,10 +80,10 @@ pub struct Noted {
 }
 
 // The listed place in a piece.
-fn place_from(piece: Piece<'_>, shape: Shape, progress: &Noted) -> Result<Place, Fault>
-    ensures { plainly place_record_of result ≡ giving (place_says shape (listed progress.now.places) (listed progress.now.inners) piece.entry.offset piece.entry.rest.now) (place_at shape piece.entry.rest.now) }
+fn place_from(piece: Piece<'_>, shape: Shape, noted: &Noted) -> Result<Place, Fault>
+    ensures { plainly place_record_of result ≡ giving (place_says shape (listed noted.now.places) (listed noted.now.inners) piece.entry.offset piece.entry.rest.now) (place_at shape piece.entry.rest.now) }
 {
-    let places = progress.places.len();
+    let places = noted.places.len();
     check(
         places < MOST_PLACES,
         piece.fault(FaultKind::WitnessCount, KIND_FROM),
@@ -100,12 +100,12 @@ fn place_from(piece: Piece<'_>, shape: Shape, progress: &Noted) -> Result<Place,
     let plan_from = plan_count_from + 1;
     let last_from = plan_from + (TRANSITION_BYTES + stride) * tests;
     piece.is_long(last_from + TRANSITION_BYTES, FaultKind::WitnessLength)?;
-    let inners = progress.inners.len();
+    let inners = noted.inners.len();
     check(
         inners == 0,
         piece.fault(FaultKind::WitnessNumber, KIND_FROM),
     )?;
-    let before = last_of(&progress.places);
+    let before = last_of(&noted.places);
     let number = piece.number_above(NUMBER_FROM, before, FaultKind::WitnessNumber)?;
     let condition = rows_at(piece, plain, ROWS_FROM, count, FaultKind::WitnessWritten)?;
     let tested = tested_from(piece, shape, plan_from, tests)?;
@@ -119,11 +119,11 @@ fn place_from(piece: Piece<'_>, shape: Shape, progress: &Noted) -> Result<Place,
 }
 
 // The inner transition in a piece.
-fn inner_from(piece: Piece<'_>, shape: Shape, progress: &Noted) -> Result<Inner, Fault>
+fn inner_from(piece: Piece<'_>, shape: Shape, noted: &Noted) -> Result<Inner, Fault>
     requires { shape.choices ≤ most_choices }
-    ensures { plainly inner_of result ≡ giving (inner_says shape (listed progress.now.inners) piece.entry.offset piece.entry.rest.now) (inner_at shape piece.entry.rest.now) }
+    ensures { plainly inner_of result ≡ giving (inner_says shape (listed noted.now.inners) piece.entry.offset piece.entry.rest.now) (inner_at shape piece.entry.rest.now) }
 {
-    let inners = progress.inners.len();
+    let inners = noted.inners.len();
     check(
         inners < MOST_INNERS,
         piece.fault(FaultKind::WitnessCount, KIND_FROM),
@@ -131,19 +131,19 @@ fn inner_from(piece: Piece<'_>, shape: Shape, progress: &Noted) -> Result<Inner,
     piece.reaches(COUNT_FROM + 1, FaultKind::WitnessLength)?;
     let rows = piece.count_at(COUNT_FROM, 0, MOST_RESTRICTIONS, FaultKind::WitnessCount)?;
     let count = usize::from(rows);
-    let values = shape.over_values();
+    let plain = shape.over_values();
     let amount = usize::from(shape.choices);
     let choices_from = ROWS_FROM + shape.stride() * count;
     piece.is_long(
-        choices_from + values.stride() * amount,
+        choices_from + plain.stride() * amount,
         FaultKind::WitnessLength,
     )?;
-    let before = last_of(&progress.inners);
+    let before = last_of(&noted.inners);
     let number = piece.number_above(NUMBER_FROM, before, FaultKind::WitnessNumber)?;
     let restrictions = rows_at(piece, shape, ROWS_FROM, count, FaultKind::WitnessWritten)?;
     let choices = rows_at(
         piece,
-        values,
+        plain,
         choices_from,
         amount,
         FaultKind::WitnessWritten,
