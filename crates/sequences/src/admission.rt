@@ -21,7 +21,7 @@ use records::{Heading, Inner, Place, Register};
 use rows::{Answer, Fault, FaultKind, check};
 
 // Puts what a piece holds into its register.
-// The two registers stay two loans: a struct of both would want three lifetimes.
+// The two registers are two parameters: a struct of both loans proves, but has three lifetimes and is no plainer.
 fn keep(found: WitnessRecord, places: &mut Register<'_, Place>, inners: &mut Register<'_, Inner>)
     requires { Roomy (record_of found) places.old inners.old }
     ensures places { map place_record_of (held places.new) ≡ places_added (record_of found) (map place_record_of (held places.old)) }
@@ -83,6 +83,7 @@ fn content_test(bytes: &[u8], table: TableView<'_>) -> Answer
 }
 
 // What the tests of a witness say.
+// This has the clause that the code shows, and edits of the code are refused here; `test_witness` adds the laws.
 fn tested(bytes: &[u8], table: TableView<'_>) -> Answer
     ensures { result ≡ witness_says (transitions_in table.entry) (shape_in table.entry) bytes.now }
 {
@@ -102,6 +103,7 @@ pub fn test_witness(bytes: &[u8], table: TableView<'_>) -> Answer
 }
 
 // Puts the records of a witness into the two registers, once their memory and every byte have been tested.
+// This has the clauses that the code shows, and edits of the code are refused here; `read_witness` adds the laws.
 fn read_into(
     bytes: &[u8],
     table: TableView<'_>,

@@ -34,6 +34,7 @@ pub(crate) const ROWS_FROM: usize = 4;
 pub(crate) const TRANSITION_BYTES: usize = 2;
 
 // The entries of a plan that have a test.
+// The piece and the shape are no struct: the tests are rows over the values alone, with a shape of their own.
 fn tested_from(
     piece: Piece<'_>,
     shape: Shape,
@@ -50,7 +51,7 @@ fn tested_from(
     });
     let plain = shape.over_values();
     let stride = TRANSITION_BYTES + plain.stride();
-    // `i` counts entries and indexes no list: offsets by `step_by` read no plainer.
+    // `i` counts entries, each of a fixed size in bytes, and indexes no list.
     for i in 0..count {
         let at = from + stride * i;
         let test = row_at(
@@ -80,6 +81,7 @@ pub struct Noted {
 }
 
 // The listed place in a piece.
+// The shape is the whole table's, and no part of the piece: a struct of both would join what does not belong together.
 fn place_from(piece: Piece<'_>, shape: Shape, noted: &Noted) -> Result<Place, Fault>
     ensures { plainly place_record_of result ≡ giving (place_says shape (listed noted.now.places) (listed noted.now.inners) piece.entry.offset piece.entry.rest.now) (place_at shape piece.entry.rest.now) }
 {
@@ -155,7 +157,7 @@ fn inner_from(piece: Piece<'_>, shape: Shape, noted: &Noted) -> Result<Inner, Fa
     })
 }
 
-// A piece of a witness, by its kind.
+// A piece of a witness, by its kind: bytes that are lent, and not yet tested.
 #[derive(Clone, Copy)]
 pub enum WitnessPiece<'a> {
     // A listed place.
@@ -164,7 +166,7 @@ pub enum WitnessPiece<'a> {
     Transition(Piece<'a>),
 }
 
-// What a piece holds.
+// What a piece holds: the record that was read from its bytes. So it is another enum than `WitnessPiece`.
 #[derive(Clone, Copy)]
 pub enum WitnessRecord {
     Listed(Place),
@@ -178,7 +180,7 @@ pub struct WitnessReader<'a> {
     pub(crate) at: usize,
 }
 
-// The kinds of pieces.
+// The kinds of pieces, by their numbers in the byte format.
 const PLACE_KIND: u8 = 1;
 
 const INNER_KIND: u8 = 2;
@@ -215,6 +217,7 @@ impl<'a> WitnessReader<'a> {
     }
 
     // The next piece, if bytes are left. After a fault the reader stands where it stood.
+    // No `Iterator`: a reader stands still at a fault, so as an iterator it would not end.
     pub fn next(&mut self) -> Result<Option<WitnessPiece<'a>>, Fault>
         ensures handed { plainly (option_map data_of) result ≡ handed_at (reader_of self.old) }
         ensures stands { reader_of self.new ≡ passed_at (reader_of self.old) }

@@ -87,6 +87,7 @@ impl<'a> TransitionReader<'a> {
     }
 
     // The next transition, if bytes are left. After a fault the reader stands where it stood.
+    // No `Iterator`: a reader stands still at a fault, so as an iterator it would not end.
     pub(crate) fn next(&mut self) -> Result<Option<Transition>, Fault>
         ensures { HandedOut (reading_of self.old) result (reading_of self.new) }
     {
