@@ -36,6 +36,7 @@ fn combined<const N: usize>(
     requires { from + N ≤ columns }
     ensures { result ≡ combined_item (row_of row.now) from N (plain_list expression_of expressions.now) item }
 {
+    // A loop, since the proof finds no bound for a signed `sum` of a chain.
     let coefficients = &row.numbers().coefficients[from..];
     let mut sum: i64 = 0;
     for (coefficient, expression) in coefficients.iter().zip(expressions.as_slice()) {
@@ -45,8 +46,8 @@ fn combined<const N: usize>(
     sum
 }
 
-// A number of a row and a number of that sum. One function for this and the next would be handed the operation that each
-// of them names.
+// A number of a row and a number of that sum, added.
+// Two functions: one for this and the next would take `+` or `-` as a closure, which says less than the two names.
 fn raised_by(number: i64, sum: i64) -> i64
     requires { Addends number sum }
     ensures { result ≡ number +ℤ sum }

@@ -2,12 +2,12 @@
 ghost use Rattle.std.specs.Prelude.{◌≡◌, ℕ};
 ghost use Rattle.obligations.specs.Questions.{bare_table, witness_of};
 ghost use Rattle.records.specs.Bounded.{plain_list};
-ghost use Rattle.records.specs.Lists.{at, first_with};
+ghost use Rattle.records.specs.Lists.{at};
 ghost use Rattle.records.specs.Records.{row_of, transition_of, place_record_of, inner_of};
 ghost use Rattle.semantics.specs.Plans.{transition_with, inner_with, place_with};
 ghost use Rattle.std.specs.Option.{option_map, option_copied};
 
-use records::{BoundedList, Inner, Numbered, Place, Transition};
+use records::{BoundedList, Inner, Place, Transition, with_number};
 use rows::WrittenRow;
 
 // The transitions of a table, and the listed places and the inner transitions of a witness.
@@ -23,29 +23,22 @@ impl<'a> Records<'a> {
     pub(crate) fn transition_with(&self, number: u16) -> Option<&'a Transition>
         ensures { option_map transition_of (option_copied result) ≡ transition_with (bare_table self.now) number }
     {
-        record_with(self.transitions, number)
+        with_number(self.transitions, number)
     }
 
     // The witness's inner transition with a number.
     pub(crate) fn inner_with(&self, number: u16) -> Option<&'a Inner>
         ensures { option_map inner_of (option_copied result) ≡ inner_with (witness_of self.now) number }
     {
-        record_with(self.inners, number)
+        with_number(self.inners, number)
     }
 
     // The witness's listed place with a number.
     pub(crate) fn place_with(&self, number: u16) -> Option<&'a Place>
         ensures { option_map place_record_of (option_copied result) ≡ place_with (witness_of self.now) number }
     {
-        record_with(self.places, number)
+        with_number(self.places, number)
     }
-}
-
-// The first record with a number, if there is one.
-fn record_with<T: Numbered>(records: &[T], number: u16) -> Option<&T>
-    ensures { option_copied result ≡ first_with T.Numbered.number number records.now }
-{
-    records.iter().find(|record| record.number() == number)
 }
 
 // The row with an index, if there is one.

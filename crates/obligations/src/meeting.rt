@@ -8,7 +8,7 @@ ghost use Rattle.semantics.specs.Plans.{meets};
 use records::{BoundedList, Heading, Inner, Place, Transition};
 use rows::{Point, WrittenRow};
 
-// Whether the point meets a row, said by an equation.
+// Whether the point meets a row, said by an equation: the searches ask for one, and `is_met` says it by a relation.
 pub(crate) fn meets(point: &Point, row: &WrittenRow) -> bool
     ensures { result ≡ meets point.now.values (row_of row.now) }
 {
@@ -16,6 +16,7 @@ pub(crate) fn meets(point: &Point, row: &WrittenRow) -> bool
 }
 
 // The place of the first row that the point does not meet.
+// Apart from `first_unmet`, whose cast to `u8` asks for the bound that is shown here.
 fn place_of_unmet(rows: &[WrittenRow], point: &Point) -> Option<usize>
     ensures value { result ≡ position (λ row. not (meets point.now.values (row_of row))) rows.now }
     ensures bound { IfSome result (λ place. place < length rows.now) }
@@ -32,6 +33,7 @@ fn first_unmet<const N: usize>(rows: &BoundedList<WrittenRow, N>, point: &Point)
 }
 
 // The first initial row of a table that the point does not meet.
+// One function for each kind of record: each names the rows that its contract speaks of.
 pub fn initial_unmet(heading: &Heading, point: &Point) -> Option<u8>
     ensures { FirstUnmet point.now.values (heading_of heading.now).initial result }
 {

@@ -19,24 +19,16 @@ pub type Choices = Values<MOST_CHOICES>;
 pub fn at_rest(state: &State) -> Point
     ensures { result.values ≡ at_rest state.now.values }
 {
-    joined(&state.values(), &[0; MOST_CHOICES])
+    let no_choices = Values::new([0; MOST_CHOICES]).unwrap();
+    point_of(state, &no_choices)
 }
 
 // The point of a state and of choices.
 pub fn point_of(state: &State, choices: &Choices) -> Point
     ensures { result.values ≡ point_of state.now.values choices.now.values }
 {
-    joined(&state.values(), &choices.values())
-}
-
-// The point of values and choices.
-fn joined(values: &[i64; MOST_VALUES], choices: &[i64; MOST_CHOICES]) -> Point
-    requires values { WithinFirst most_values (magnitude_of StateValue) values.now }
-    requires choices { WithinFirst most_choices (magnitude_of StateValue) choices.now }
-    ensures { result.values ≡ point_of values.now choices.now }
-{
     let mut all = [0; COLUMNS];
-    all[..MOST_VALUES].copy_from_slice(&values[..]);
-    all[MOST_VALUES..].copy_from_slice(&choices[..]);
+    all[..MOST_VALUES].copy_from_slice(&state.values());
+    all[MOST_VALUES..].copy_from_slice(&choices.values());
     Point::new(all).unwrap()
 }

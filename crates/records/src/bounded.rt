@@ -4,7 +4,7 @@ ghost use Rattle.std.specs.Prelude.{◌≡◌, ℕ, ◌≤◌, length};
 use std::alloc::AllocError;
 
 // The first `count` of the items; those behind them are not part of the list.
-// An array with a count, and no `Vec`: the checker's core runs in fixed memory.
+// An array with a count: the core runs in fixed memory, without `Vec`, and the library's `ArrayVec` is no `Copy`.
 pub struct BoundedList<T, const N: usize> {
     items: [T; N],
     count: usize,

@@ -12,7 +12,7 @@ pub mod written;
 
 pub use bounded::BoundedList;
 pub use heading::Heading;
-pub use numbered::Numbered;
+pub use numbered::{Numbered, with_number};
 pub use records::{Inner, Place, PlanEntry, Transition};
 pub use register::Register;
 pub use shape::Shape;

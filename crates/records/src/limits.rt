@@ -15,9 +15,10 @@ pub const MOST_GUARDS: usize = 4;
 // The greatest number of condition rows of a listed place.
 pub const MOST_CONDITIONS: usize = 6;
 
-// The greatest number of plan entries of a listed place, and of those that have a test: all but the last.
+// The greatest number of plan entries of a listed place.
 pub const MOST_ENTRIES: usize = 4;
 
+// The greatest number of plan entries that have a test: all but the last.
 pub const MOST_TESTED: usize = 3;
 
 // The greatest number of restriction rows of an inner transition.

@@ -11,7 +11,7 @@ ghost use Rattle.formats.specs.Exact.{WitnessExactly};
 ghost use Rattle.formats.specs.Placed.{Placed};
 ghost use Rattle.formats.specs.Witnesses.{pieces_say, witness_at, numbers_in, content_says, witness_says, witness_memory_says, admit_says};
 
-use crate::pieces::{PIECES_FROM, version_test};
+use crate::pieces::version_test;
 use crate::references::references_test;
 use crate::view::TableView;
 use crate::witness::{Noted, WitnessReader, WitnessRecord, pieces_test};
@@ -21,7 +21,7 @@ use records::{Heading, Inner, Place, Register};
 use rows::{Answer, Fault, FaultKind, check};
 
 // Puts what a piece holds into its register.
-// The two registers stay two loans: a struct of both would want three lifetimes.
+// The two registers are two parameters: a struct of both loans proves, but has three lifetimes and is no plainer.
 fn keep(found: WitnessRecord, places: &mut Register<'_, Place>, inners: &mut Register<'_, Inner>)
     requires { Roomy (record_of found) places.old inners.old }
     ensures places { map place_record_of (held places.new) ≡ places_added (record_of found) (map place_record_of (held places.old)) }
@@ -55,10 +55,7 @@ fn fill(
     ensures inners { map inner_of (held inners.new) ≡ (witness_at (shape_of (heading_of heading.now)) bytes.now).inners }
     ensures inners_behind { behind inners.new ≡ drop (length (held inners.new)) (behind inners.old) }
 {
-    let mut reader = WitnessReader {
-        bytes,
-        at: PIECES_FROM,
-    };
+    let mut reader = WitnessReader::at_pieces(bytes);
     let mut noted = Noted::new();
     while let Some(piece) = reader.next()? {
         let found = noted.read(piece, heading)?;
@@ -86,6 +83,7 @@ fn content_test(bytes: &[u8], table: TableView<'_>) -> Answer
 }
 
 // What the tests of a witness say.
+// This has the clause that the code shows, and edits of the code are refused here; `test_witness` adds the laws.
 fn tested(bytes: &[u8], table: TableView<'_>) -> Answer
     ensures { result ≡ witness_says (transitions_in table.entry) (shape_in table.entry) bytes.now }
 {
@@ -105,6 +103,7 @@ pub fn test_witness(bytes: &[u8], table: TableView<'_>) -> Answer
 }
 
 // Puts the records of a witness into the two registers, once their memory and every byte have been tested.
+// This has the clauses that the code shows, and edits of the code are refused here; `read_witness` adds the laws.
 fn read_into(
     bytes: &[u8],
     table: TableView<'_>,

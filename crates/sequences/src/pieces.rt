@@ -24,18 +24,12 @@ pub(crate) fn version_test(bytes: &[u8], kind: FaultKind) -> Answer
 
 // The piece that begins at an offset, where its length field and its rest lie within the input.
 pub(crate) fn piece_at<'a>(input: &'a [u8], at: usize, kind: FaultKind) -> Result<Piece<'a>, Fault>
-    requires { at ≤ length input.now }
     ensures { piece_found kind input.now at result }
 {
-    let left = input.len() - at;
-    if left < LENGTH_BYTES {
-        return Err(Fault::at(kind, at));
-    }
+    let fault = Fault::at(kind, at);
+    let from = at.saturating_add(LENGTH_BYTES);
+    let left = input.get(from..).ok_or(fault)?;
     let length = usize::from(word_at(input, at));
-    if left - LENGTH_BYTES < length {
-        return Err(Fault::at(kind, at));
-    }
-    let from = at + LENGTH_BYTES;
-    let rest = &input[from..from + length];
+    let rest = left.get(..length).ok_or(fault)?;
     Ok(Piece { offset: at, rest })
 }

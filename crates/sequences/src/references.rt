@@ -10,12 +10,11 @@ ghost use Rattle.std.specs.Option.{option_map};
 
 use crate::named::Named;
 use crate::piece::Piece;
-use crate::pieces::PIECES_FROM;
 use crate::view::TableView;
 use crate::witness::{
     COUNT_FROM, NUMBER_FROM, Noted, ROWS_FROM, TRANSITION_BYTES, WitnessPiece, WitnessReader,
 };
-use records::{BoundedList, Transition};
+use records::{BoundedList, Transition, with_number};
 use rows::bytes::{byte_at, word_at};
 use rows::{Answer, FaultKind, check};
 
@@ -31,8 +30,7 @@ impl Named<'_> {
     fn transition(self, number: u16) -> Option<Transition>
         ensures { option_map transition_of result ≡ first_with (λ (t : TransitionData). t.number) number (transitions_in self.entry.table) }
     {
-        let mut transitions = self.table.transitions.iter();
-        transitions.find(|t| t.number == number).copied()
+        with_number(self.table.transitions, number).copied()
     }
 
     // Whether a plan entry of a place fits: its transition is in the table, starts at the place and is declared inner.
@@ -62,7 +60,7 @@ impl Named<'_> {
         let plan_count_from = ROWS_FROM + stride * rows;
         let count = usize::from(byte_at(piece.rest, plan_count_from));
         let place = word_at(piece.rest, NUMBER_FROM);
-        // `e` counts entries and indexes no list: offsets by `step_by` read no plainer.
+        // `e` counts entries, each of a fixed size in bytes, and indexes no list.
         for e in 0..count {
             let at = plan_count_from + 1 + (TRANSITION_BYTES + stride) * e;
             let number = word_at(piece.rest, at);
@@ -92,10 +90,7 @@ pub(crate) fn references_test(bytes: &[u8], table: TableView<'_>, noted: &Noted)
     requires { Ok tt ≡ pieces_say (shape_in table) bytes.now }
     ensures { result ≡ references_say (shape_in table.entry) (named_in (transitions_in table.entry) (progress_of noted.now)) (pieces_of bytes.now) }
 {
-    let mut reader = WitnessReader {
-        bytes,
-        at: PIECES_FROM,
-    };
+    let mut reader = WitnessReader::at_pieces(bytes);
     let named = Named { table, noted };
     while let Some(piece) = reader.next()? {
         named.reference_test(piece)?;

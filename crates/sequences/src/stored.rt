@@ -1,5 +1,4 @@
 // Rows and expressions that stand in bytes.
-// A piece and a shape are no struct of their own: the rows of one piece have two shapes.
 ghost use Rattle.std.specs.Prelude.{◌≡◌, ℕ, ◌+◌, ◌*◌, ◌^◌, ◌<◌, ◌≤◌, length};
 ghost use Rattle.sequences.specs.StoredMade.{row_from, rows_from};
 ghost use Rattle.formats.specs.StoredRows.{item_at, row_at};
@@ -32,6 +31,7 @@ fn numbers_at(bytes: &[u8], shape: Shape, at: usize) -> Numbers
 }
 
 // The row or expression at an offset of a piece's rest, once its numbers are tested.
+// The piece and the shape are no struct: the rows of one piece have two shapes.
 pub(crate) fn row_at<T: Written>(
     piece: Piece<'_>,
     shape: Shape,
@@ -62,7 +62,7 @@ pub(crate) fn rows_at<T: Written, const N: usize>(
 {
     let mut rows = BoundedList::new(T::zero());
     let stride = shape.stride();
-    // `i` counts rows and indexes no list: offsets by `step_by` read no plainer.
+    // `i` counts rows. With offsets by `step_by` the loop ended in two ways, and four goals of its proof stayed open.
     for i in 0..count {
         let row = row_at(piece, shape, from + stride * i, kind)?;
         rows.push(row);

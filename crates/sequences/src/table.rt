@@ -102,6 +102,7 @@ fn fill(mut reader: TransitionReader<'_>, register: &mut Register<'_, Transition
 }
 
 // The heading of a table whose bytes pass every test.
+// This has the clause that the code shows, and edits of the code are refused here; `test_table` adds the laws.
 fn tested(bytes: &[u8]) -> Result<Heading, Fault>
     ensures { plainly heading_of result ≡ giving (table_says bytes.now) (table_at bytes.now).heading }
 {
@@ -122,6 +123,7 @@ pub fn test_table(bytes: &[u8]) -> Result<Heading, Fault>
 
 // Puts a table's transitions into the register, once the memory for all three kinds of records and every byte have been
 // tested.
+// This has the clauses that the code shows, and edits of the code are refused here; `read_table` adds the laws.
 fn read_into(
     bytes: &[u8],
     transitions: &mut Register<'_, Transition>,

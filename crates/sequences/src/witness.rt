@@ -34,6 +34,7 @@ pub(crate) const ROWS_FROM: usize = 4;
 pub(crate) const TRANSITION_BYTES: usize = 2;
 
 // The entries of a plan that have a test.
+// The piece and the shape are no struct: the tests are rows over the values alone, with a shape of their own.
 fn tested_from(
     piece: Piece<'_>,
     shape: Shape,
@@ -48,11 +49,11 @@ fn tested_from(
         transition: 0,
         test: WrittenRow::zero(),
     });
-    let stride = TRANSITION_BYTES + shape.over_values().stride();
-    // `i` counts entries and indexes no list: offsets by `step_by` read no plainer.
+    let plain = shape.over_values();
+    let stride = TRANSITION_BYTES + plain.stride();
+    // `i` counts entries, each of a fixed size in bytes, and indexes no list.
     for i in 0..count {
         let at = from + stride * i;
-        let plain = shape.over_values();
         let test = row_at(
             piece,
             plain,
@@ -80,10 +81,11 @@ pub struct Noted {
 }
 
 // The listed place in a piece.
-fn place_from(piece: Piece<'_>, shape: Shape, progress: &Noted) -> Result<Place, Fault>
-    ensures { plainly place_record_of result ≡ giving (place_says shape (listed progress.now.places) (listed progress.now.inners) piece.entry.offset piece.entry.rest.now) (place_at shape piece.entry.rest.now) }
+// The shape is the whole table's, and no part of the piece: a struct of both would join what does not belong together.
+fn place_from(piece: Piece<'_>, shape: Shape, noted: &Noted) -> Result<Place, Fault>
+    ensures { plainly place_record_of result ≡ giving (place_says shape (listed noted.now.places) (listed noted.now.inners) piece.entry.offset piece.entry.rest.now) (place_at shape piece.entry.rest.now) }
 {
-    let places = progress.places.len();
+    let places = noted.places.len();
     check(
         places < MOST_PLACES,
         piece.fault(FaultKind::WitnessCount, KIND_FROM),
@@ -100,12 +102,12 @@ fn place_from(piece: Piece<'_>, shape: Shape, progress: &Noted) -> Result<Place,
     let plan_from = plan_count_from + 1;
     let last_from = plan_from + (TRANSITION_BYTES + stride) * tests;
     piece.is_long(last_from + TRANSITION_BYTES, FaultKind::WitnessLength)?;
-    let inners = progress.inners.len();
+    let inners = noted.inners.len();
     check(
         inners == 0,
         piece.fault(FaultKind::WitnessNumber, KIND_FROM),
     )?;
-    let before = last_of(&progress.places);
+    let before = last_of(&noted.places);
     let number = piece.number_above(NUMBER_FROM, before, FaultKind::WitnessNumber)?;
     let condition = rows_at(piece, plain, ROWS_FROM, count, FaultKind::WitnessWritten)?;
     let tested = tested_from(piece, shape, plan_from, tests)?;
@@ -119,11 +121,11 @@ fn place_from(piece: Piece<'_>, shape: Shape, progress: &Noted) -> Result<Place,
 }
 
 // The inner transition in a piece.
-fn inner_from(piece: Piece<'_>, shape: Shape, progress: &Noted) -> Result<Inner, Fault>
+fn inner_from(piece: Piece<'_>, shape: Shape, noted: &Noted) -> Result<Inner, Fault>
     requires { shape.choices ≤ most_choices }
-    ensures { plainly inner_of result ≡ giving (inner_says shape (listed progress.now.inners) piece.entry.offset piece.entry.rest.now) (inner_at shape piece.entry.rest.now) }
+    ensures { plainly inner_of result ≡ giving (inner_says shape (listed noted.now.inners) piece.entry.offset piece.entry.rest.now) (inner_at shape piece.entry.rest.now) }
 {
-    let inners = progress.inners.len();
+    let inners = noted.inners.len();
     check(
         inners < MOST_INNERS,
         piece.fault(FaultKind::WitnessCount, KIND_FROM),
@@ -131,19 +133,19 @@ fn inner_from(piece: Piece<'_>, shape: Shape, progress: &Noted) -> Result<Inner,
     piece.reaches(COUNT_FROM + 1, FaultKind::WitnessLength)?;
     let rows = piece.count_at(COUNT_FROM, 0, MOST_RESTRICTIONS, FaultKind::WitnessCount)?;
     let count = usize::from(rows);
-    let values = shape.over_values();
+    let plain = shape.over_values();
     let amount = usize::from(shape.choices);
     let choices_from = ROWS_FROM + shape.stride() * count;
     piece.is_long(
-        choices_from + values.stride() * amount,
+        choices_from + plain.stride() * amount,
         FaultKind::WitnessLength,
     )?;
-    let before = last_of(&progress.inners);
+    let before = last_of(&noted.inners);
     let number = piece.number_above(NUMBER_FROM, before, FaultKind::WitnessNumber)?;
     let restrictions = rows_at(piece, shape, ROWS_FROM, count, FaultKind::WitnessWritten)?;
     let choices = rows_at(
         piece,
-        values,
+        plain,
         choices_from,
         amount,
         FaultKind::WitnessWritten,
@@ -155,7 +157,7 @@ fn inner_from(piece: Piece<'_>, shape: Shape, progress: &Noted) -> Result<Inner,
     })
 }
 
-// A piece of a witness, by its kind.
+// A piece of a witness, by its kind: bytes that are lent, and not yet tested.
 #[derive(Clone, Copy)]
 pub enum WitnessPiece<'a> {
     // A listed place.
@@ -164,7 +166,7 @@ pub enum WitnessPiece<'a> {
     Transition(Piece<'a>),
 }
 
-// What a piece holds.
+// What a piece holds: the record that was read from its bytes. So it is another enum than `WitnessPiece`.
 #[derive(Clone, Copy)]
 pub enum WitnessRecord {
     Listed(Place),
@@ -178,7 +180,7 @@ pub struct WitnessReader<'a> {
     pub(crate) at: usize,
 }
 
-// The kinds of pieces.
+// The kinds of pieces, by their numbers in the byte format.
 const PLACE_KIND: u8 = 1;
 
 const INNER_KIND: u8 = 2;
@@ -201,13 +203,21 @@ impl<'a> WitnessReader<'a> {
         ensures { plainly reader_of result ≡ giving (version_says WitnessVersion bytes.now) (standing bytes.now pieces_from) }
     {
         version_test(bytes, FaultKind::WitnessVersion)?;
-        Ok(WitnessReader {
+        Ok(WitnessReader::at_pieces(bytes))
+    }
+
+    // A reader that stands at the first piece of bytes whose version has been tested.
+    pub(crate) fn at_pieces(bytes: &'a [u8]) -> WitnessReader<'a>
+        ensures { reader_of result ≡ standing bytes.now pieces_from }
+    {
+        WitnessReader {
             bytes,
             at: PIECES_FROM,
-        })
+        }
     }
 
     // The next piece, if bytes are left. After a fault the reader stands where it stood.
+    // No `Iterator`: a reader stands still at a fault, so as an iterator it would not end.
     pub fn next(&mut self) -> Result<Option<WitnessPiece<'a>>, Fault>
         ensures handed { plainly (option_map data_of) result ≡ handed_at (reader_of self.old) }
         ensures stands { reader_of self.new ≡ passed_at (reader_of self.old) }
@@ -262,10 +272,7 @@ impl Noted {
 pub(crate) fn pieces_test(bytes: &[u8], heading: &Heading) -> Result<Noted, Fault>
     ensures { plainly progress_of result ≡ giving (pieces_say (shape_of (heading_of heading.now)) bytes.now) (numbers_in (witness_at (shape_of (heading_of heading.now)) bytes.now)) }
 {
-    let mut reader = WitnessReader {
-        bytes,
-        at: PIECES_FROM,
-    };
+    let mut reader = WitnessReader::at_pieces(bytes);
     let mut noted = Noted::new();
     while let Some(piece) = reader.next()? {
         noted.read(piece, heading)?;

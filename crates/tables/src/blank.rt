@@ -1,4 +1,5 @@
 // Records to fill memory with before it is lent.
+// No `Default` of the records: one with the number 0 is in no table and no witness, and only fills memory.
 ghost use Rattle.records.specs.Records.{transition_of, place_record_of, inner_of};
 ghost use Rattle.tables.specs.Blanks.{blank_transition, blank_place, blank_inner};
 ghost use Rattle.std.specs.Prelude.{◌≡◌};

@@ -1,4 +1,4 @@
-// Tables.
+// Reading a table into memory, and what it holds in short.
 ghost use Rattle.std.specs.Prelude.{◌≡◌, ◌≤◌};
 ghost use Rattle.formats.specs.Pieces.{giving};
 ghost use Rattle.formats.specs.Tables.{table_at, table_says};

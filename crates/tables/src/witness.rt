@@ -1,4 +1,4 @@
-// Witnesses.
+// Reading a witness for a table, and what it holds in short.
 ghost use Rattle.formats.specs.Tables.{table_at, table_says};
 ghost use Rattle.sequences.specs.TableGiven.{shape_in, transitions_in};
 ghost use Rattle.std.specs.Prelude.{◌≡◌, Ok};

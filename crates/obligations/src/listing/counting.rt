@@ -13,8 +13,8 @@ use records::{Inner, Place, Transition};
 use semantics::Obligation;
 use std::ops::ControlFlow;
 
-// The row with the index, among so many rows.
-fn row_at(rows: usize, index: usize) -> ControlFlow<u8, usize>
+// The number with the index, among 0, 1 and so on up to so many.
+fn nth_of(rows: usize, index: usize) -> ControlFlow<u8, usize>
     requires { rows ≤ 256 }
     ensures { Reached index (range_with_len 0 rows) result }
 {
@@ -28,7 +28,7 @@ fn row_at(rows: usize, index: usize) -> ControlFlow<u8, usize>
 fn restriction_in(inner: &Inner, index: usize) -> ControlFlow<Obligation, usize>
     ensures { Reached index (restrictions_of (inner_of inner.now)) result }
 {
-    row_at(inner.restrictions.len(), index).map_break(|row| Obligation::Restriction(
+    nth_of(inner.restrictions.len(), index).map_break(|row| Obligation::Restriction(
         inner.number,
         row,
     ))
@@ -39,7 +39,7 @@ impl<'a> Records<'a> {
     fn consecution_in(&self, inner: &Inner, index: usize) -> ControlFlow<Obligation, usize>
         ensures { Reached index (consecutions_of (bare_table self.now) (witness_of self.now) (inner_of inner.now)) result }
     {
-        row_at(self.target_rows(inner.number), index).map_break(|row| Obligation::Consecution(
+        nth_of(self.target_rows(inner.number), index).map_break(|row| Obligation::Consecution(
             inner.number,
             row,
         ))
@@ -54,7 +54,7 @@ impl<'a> Records<'a> {
     ) -> ControlFlow<Obligation, usize>
         ensures { Reached index (guards_at (bare_table self.now) (place_record_of place.now) entry) result }
     {
-        row_at(self.guard_rows(place, usize::from(entry)), index).map_break(|row| Obligation::Guard(
+        nth_of(self.guard_rows(place, usize::from(entry)), index).map_break(|row| Obligation::Guard(
             place.number,
             entry,
             row,
@@ -73,12 +73,13 @@ impl<'a> Records<'a> {
     fn exit_in(&self, transition: &Transition, index: usize) -> ControlFlow<Obligation, usize>
         ensures { Reached index (exits_of (witness_of self.now) (transition_of transition.now)) result }
     {
-        row_at(usize::from(self.is_exit(transition)), index).map_break(|_| Obligation::Exit(
+        nth_of(usize::from(self.is_exit(transition)), index).map_break(|_| Obligation::Exit(
             transition.number,
         ))
     }
 
     // The same for each record of a kind.
+    // One function for each kind: a generic one would be handed the list and the count, and be this fold alone.
     fn consecution_at(&self, index: usize) -> ControlFlow<Obligation, usize>
         ensures { Reached index (gathered (consecutions_of (bare_table self.now) (witness_of self.now)) (map inner_of self.now.inners.now)) result }
     {
@@ -112,6 +113,7 @@ impl<'a> Records<'a> {
     }
 
     // All obligations, one kind after another.
+    // Apart from `obligation_at`: `?` hands on a `ControlFlow`, of which that function makes an `Option`.
     fn counted_to(&self, index: usize) -> ControlFlow<Obligation, usize>
         ensures { Reached index (obligations_of (bare_table self.now) (witness_of self.now)) result }
     {

@@ -70,9 +70,10 @@ impl<'a> Records<'a> {
         Some(Question { facts, goal })
     }
 
-    // The question that an obligation of any kind poses.
-    fn posed_by(&self, obligation: Obligation) -> Option<Question>
-        ensures { Asks (λ (t : TableData) (w : WitnessData). question_of t w obligation) self.now result }
+    // The question that an obligation poses; none where the table and the witness have no such obligation.
+    pub fn question_of(&self, obligation: Obligation) -> Option<Question>
+        ensures value { Asks (λ (t : TableData) (w : WitnessData). question_of t w obligation) self.now result }
+        ensures related { Relates self.now obligation result }
     {
         match obligation {
             Obligation::Consecution(number, row) => self.consecution(number, row),
@@ -80,13 +81,5 @@ impl<'a> Records<'a> {
             Obligation::Guard(place, entry, row) => self.guard(place, entry, row),
             Obligation::Exit(number) => self.exit(number),
         }
-    }
-
-    // The question that an obligation poses; none where the table and the witness have no such obligation.
-    pub fn question_of(&self, obligation: Obligation) -> Option<Question>
-        ensures value { Asks (λ (t : TableData) (w : WitnessData). question_of t w obligation) self.now result }
-        ensures related { Relates self.now obligation result }
-    {
-        self.posed_by(obligation)
     }
 }

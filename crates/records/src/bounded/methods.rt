@@ -40,7 +40,7 @@ impl<T: Copy, const N: usize> BoundedList<T, N> {
     }
 
     // Puts an element at the end, if there is room; else the list stays as it is.
-    // A `bool`, as a set's `insert` answers: an empty error would say no more.
+    // A `bool`: the one thing that can be wrong is that there is no room.
     pub fn push(&mut self, item: T) -> bool
         ensures took { result ≡ nat_lt (length (listed self.old)) N }
         ensures listed { listed self.new ≡ (if result then listed self.old ++ (item ∷ []) else listed self.old) }

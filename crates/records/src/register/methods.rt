@@ -47,7 +47,7 @@ impl<'a, T: Copy> Register<'a, T> {
     }
 
     // Puts a record at the end, if there is room; else the register stays as it is.
-    // A `bool`, as a set's `insert` answers: an empty error would say no more.
+    // A `bool`: the one thing that can be wrong is that there is no room.
     pub fn push(&mut self, item: T) -> bool
         ensures took { result ≡ nat_lt (length (held self.old)) (room self.old) }
         ensures held { held self.new ≡ (if result then held self.old ++ (item ∷ []) else held self.old) }
@@ -70,7 +70,7 @@ impl<'a, T: Copy> Register<'a, T> {
     }
 
     // Puts a record in the place of another; where none stands there, the register stays as it is.
-    // A `bool`, as for `push`.
+    // A `bool`: the one thing that can be wrong is that no record stands there.
     #[tactic(auto, using(crate::proofs::Fronts::taken_set))]
     pub fn replace(&mut self, i: usize, item: T) -> bool
         ensures took { result ≡ nat_lt i (length (held self.old)) }
@@ -88,6 +88,7 @@ impl<'a, T: Copy> Register<'a, T> {
 
 impl<'a, T: Copy + Numbered> Register<'a, T> {
     // The place of the first record with a number.
+    // A place, for `get` and `replace`, and no record: `with_number` lends that.
     pub fn find(&self, n: u16) -> Option<usize>
         ensures { result ≡ place_of T.Numbered.number n 0 (held self.now) }
     {

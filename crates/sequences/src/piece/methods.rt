@@ -1,5 +1,4 @@
 // The fields of a piece, and the tests on them.
-// Each is told the kind of its fault, as its definition is: a struct of the kinds would be looked into at each test.
 ghost use Rattle.std.specs.Prelude.{◌≡◌, ℕ, ◌+◌, ◌≤◌, length};
 ghost use Rattle.formats.specs.Pieces.{rest_from, byte_at, fault_at, reach_says, long_says, count_says, above_says, giving};
 ghost use Rattle.rows.specs.Bytes.{word_at};
@@ -25,6 +24,7 @@ impl Piece<'_> {
     }
 
     // Whether the rest has so many bytes at least.
+    // The kind of the fault is a parameter: a table and a witness have kinds of their own for the same test.
     pub(crate) fn reaches(self, n: usize, kind: FaultKind) -> Answer
         ensures { result ≡ reach_says kind self.entry.offset self.entry.rest.now n }
     {
@@ -32,6 +32,7 @@ impl Piece<'_> {
     }
 
     // Whether the rest has exactly so many bytes.
+    // The kind of the fault is a parameter: a table and a witness have kinds of their own for the same test.
     pub(crate) fn is_long(self, n: usize, kind: FaultKind) -> Answer
         ensures { result ≡ long_says kind self.entry.offset self.entry.rest.now n }
     {
@@ -39,6 +40,7 @@ impl Piece<'_> {
     }
 
     // The count in a byte of the rest, which lies within its limits.
+    // The kind of the fault is a parameter: a table and a witness have kinds of their own for the same test.
     pub(crate) fn count_at(
         self,
         at: usize,
@@ -50,23 +52,19 @@ impl Piece<'_> {
         ensures { result ≡ giving (count_says kind self.entry.offset self.entry.rest.now at least most) (byte_at self.entry.rest.now at) }
     {
         let count = byte_at(self.rest, at);
-        if (least..=most).contains(&usize::from(count)) {
-            Ok(count)
-        } else {
-            Err(self.fault(kind, at))
-        }
+        let fits = (least..=most).contains(&usize::from(count));
+        check(fits, self.fault(kind, at))?;
+        Ok(count)
     }
 
     // The number in two bytes of the rest, which is greater than another.
+    // The kind of the fault is a parameter: a table and a witness have kinds of their own for the same test.
     pub(crate) fn number_above(self, at: usize, least: u16, kind: FaultKind) -> Result<u16, Fault>
         requires { at ≤ length self.rest.now }
         ensures { result ≡ giving (above_says kind self.entry.offset self.entry.rest.now at least) (word_at self.entry.rest.now at) }
     {
         let number = word_at(self.rest, at);
-        if least < number {
-            Ok(number)
-        } else {
-            Err(self.fault(kind, at))
-        }
+        check(least < number, self.fault(kind, at))?;
+        Ok(number)
     }
 }

@@ -18,9 +18,9 @@ use rows::{Fault, FaultKind, check};
 // Where the fields of a transition piece stand in its rest.
 const NUMBER_FROM: usize = 0;
 
-const LEFT_FROM: usize = 2;
+const START_FROM: usize = 2;
 
-const REACHED_FROM: usize = 4;
+const TARGET_FROM: usize = 4;
 
 const GUARD_COUNT_FROM: usize = 6;
 
@@ -67,8 +67,8 @@ impl<'a> TransitionReader<'a> {
             FaultKind::TableLength,
         )?;
         let number = piece.number_above(NUMBER_FROM, self.last, FaultKind::TableNumber)?;
-        let start = piece.number_above(LEFT_FROM, 0, FaultKind::TableNumber)?;
-        let target = piece.number_above(REACHED_FROM, 0, FaultKind::TableNumber)?;
+        let start = piece.number_above(START_FROM, 0, FaultKind::TableNumber)?;
+        let target = piece.number_above(TARGET_FROM, 0, FaultKind::TableNumber)?;
         let guard = rows_at(piece, plain, GUARD_FROM, count, FaultKind::TableWritten)?;
         let updates = rows_at(
             piece,
@@ -87,6 +87,7 @@ impl<'a> TransitionReader<'a> {
     }
 
     // The next transition, if bytes are left. After a fault the reader stands where it stood.
+    // No `Iterator`: a reader stands still at a fault, so as an iterator it would not end.
     pub(crate) fn next(&mut self) -> Result<Option<Transition>, Fault>
         ensures { HandedOut (reading_of self.old) result (reading_of self.new) }
     {

@@ -3,13 +3,13 @@ use Rattle.std.specs.Option.{option_map}
 use Rattle.rows.proofs.Chains.{never}
 use Rattle.sequences.specs.declared.witness.WitnessPiece.{WitnessPiece}
 use Rattle.sequences.specs.Admitted.{Roomy, places_added, inners_added, place_count, inner_count}
-use Rattle.sequences.specs.Handed.{ReaderData, reader_of, progress_of, data_of, record_of, passed_at}
+use Rattle.sequences.specs.Handed.{ReaderData, standing, reader_of, progress_of, data_of, record_of, passed_at}
 use Rattle.records.specs.Held.{held, behind}
 use Rattle.records.specs.Limits.{most_places, most_inners}
 use Rattle.formats.specs.Pieces.{pieces_from}
 use Rattle.records.specs.Records.{heading_of, shape_of, PlaceData, InnerData, place_record_of, inner_of}
 use Rattle.formats.specs.Walks.{PieceData}
-use Rattle.formats.specs.Witnesses.{Progress, RecordData, body_by, record_by, further_by, places_of, inners_of, pieces_of, witness_at}
+use Rattle.formats.specs.Witnesses.{Progress, RecordData, begun, body_by, record_by, further_by, places_of, inners_of, pieces_of, witness_at}
 use Rattle.sequences.proofs.Filling.{Filled, filled_begins, filled_done, places_after, inners_after, roomy}
 use Rattle.sequences.proofs.HandedSteps.{Given, some_handed, none_handed, fault_handed, comes_on}
 use Rattle.formats.proofs.PieceTests.{given_ok, given_err}
@@ -21,13 +21,18 @@ use Rattle.sequences.proofs.admission.fill.Goals.{In-Some, In_ok-found, After-ke
 pub loop-piece-init : goal.loop-piece-init
 unfolding pieces_of
 loop-piece-init c =
-    let e = sym c.new-noted.ensures in (
-      subst (Walking (shape_of (heading_of c.args.heading.now)) c.args.bytes.now (record { bytes = c.args.bytes.now; at = pieces_from })) e (walking_begins (shape_of (heading_of c.args.heading.now)) c.args.bytes.now),
-      subst (λ (s : Progress). Filled place_record_of (witness_at (shape_of (heading_of c.args.heading.now)) c.args.bytes.now).places (witness_at (shape_of (heading_of c.args.heading.now)) c.args.bytes.now).places s.places c.args.places.now c.args.places.now) e
-          (filled_begins place_record_of (witness_at (shape_of (heading_of c.args.heading.now)) c.args.bytes.now).places c.args.places.now c.requires.no_places),
-      subst (λ (s : Progress). Filled inner_of (witness_at (shape_of (heading_of c.args.heading.now)) c.args.bytes.now).inners (witness_at (shape_of (heading_of c.args.heading.now)) c.args.bytes.now).inners s.inners c.args.inners.now c.args.inners.now) e
-          (filled_begins inner_of (witness_at (shape_of (heading_of c.args.heading.now)) c.args.bytes.now).inners c.args.inners.now c.requires.no_inners),
-    )
+    let shape = shape_of (heading_of c.args.heading.now) in
+    let bytes = c.args.bytes.now in
+    let begins = λ (q : ReaderData) (s : Progress).
+    Walking shape bytes q s
+    × Filled place_record_of (witness_at shape bytes).places (places_of shape (ahead q)) s.places c.args.places.now c.args.places.now
+    × Filled inner_of (witness_at shape bytes).inners (inners_of shape (ahead q)) s.inners c.args.inners.now c.args.inners.now in
+    let here : begins (standing bytes pieces_from) begun = (
+      walking_begins shape bytes,
+      filled_begins place_record_of (witness_at shape bytes).places c.args.places.now c.requires.no_places,
+      filled_begins inner_of (witness_at shape bytes).inners c.args.inners.now c.requires.no_inners,
+    ) in
+    subst (λ (q : ReaderData). begins q (progress_of c.new-noted.result)) (sym c.at_pieces-reader.ensures) (subst (begins (standing bytes pieces_from)) (sym c.new-noted.ensures) here)
 
 module _ (c : In-Some) where
   handed : Given (reader_of c.loop-piece.reader) (data_of c.in-Some.piece)

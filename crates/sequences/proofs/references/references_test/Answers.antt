@@ -14,7 +14,12 @@ use Rattle.sequences.proofs.references.references_test.Goals.{In-Some}
 
 pub loop-piece-init : goal.loop-piece-init
 unfolding pieces_of
-loop-piece-init c = ((begun, walking_begins (shape_in c.args.table) c.args.bytes.now), refl)
+loop-piece-init c =
+    let e = c.at_pieces-reader.ensures in
+    let n = named_in (transitions_in c.args.table) (progress_of c.args.noted.now) in (
+      (begun, subst (λ (q : ReaderData). Walking (shape_in c.args.table) c.args.bytes.now q begun) (sym e) (walking_begins (shape_in c.args.table) c.args.bytes.now)),
+      ap (λ (q : ReaderData). references_say (shape_in c.args.table) n (ahead q)) e,
+    )
 
 module _ (c : In-Some) where
   handed : Given (reader_of c.loop-piece.reader) (data_of c.in-Some.piece)

@@ -24,15 +24,15 @@ module _ (shape values : Shape) (rest : List ℕ) (count amount row expression :
   whole = rw (r, n, e, s, m)
 
 -- a chain goes on behind the tests up to that of the length
-past_long : {x r : Said} (c : In_ok-is_long) → x ≡ r → x ≡ (check (ltb (length (listed c.args.progress.now.inners)) most_inners) (fault_at WitnessCount (rest_from c.args.piece.offset + kind_from))
+past_long : {x r : Said} (c : In_ok-is_long) → x ≡ r → x ≡ (check (ltb (length (listed c.args.noted.now.inners)) most_inners) (fault_at WitnessCount (rest_from c.args.piece.offset + kind_from))
     and_then reach_says WitnessLength c.args.piece.offset c.args.piece.rest.now (count_from + 1)
     and_then count_says WitnessCount c.args.piece.offset c.args.piece.rest.now count_from 0 most_restrictions
     and_then long_says WitnessLength c.args.piece.offset c.args.piece.rest.now (inner_length c.args.shape c.args.piece.rest.now)
     and_then r)
 past_long c e =
-    let inners = ap (λ (n : ℕ). check (ltb n most_inners) c.fault.result) c.len-inners.ensures.value ∙ ap (check (ltb (length (listed c.args.progress.now.inners)) most_inners)) c.fault.ensures in
+    let inners = ap (λ (n : ℕ). check (ltb n most_inners) c.fault.result) c.len-inners.ensures.value ∙ ap (check (ltb (length (listed c.args.noted.now.inners)) most_inners)) c.fault.ensures in
     let o = given_ok _ _ _ c.in_ok-rows.ensures in
-    let l = whole c.args.shape _ c.args.piece.rest.now _ _ _ _ (c.from-count.ensures ∙ o.1) c.from-amount.ensures c.over_values-values.ensures c.stride.ensures c.stride-2.ensures in
+    let l = whole c.args.shape _ c.args.piece.rest.now _ _ _ _ (c.from-count.ensures ∙ o.1) c.from-amount.ensures c.over_values-plain.ensures c.stride.ensures c.stride-2.ensures in
     goes _ _ _ (c.in_ok-check.ensures ∙ inners)
     (goes _ _ _ c.in_ok-reaches.ensures (goes _ _ _ o.0 (goes _ _ _ (c.in_ok-is_long.ensures ∙ ap (long_says WitnessLength c.args.piece.offset c.args.piece.rest.now) l) e)))
 
@@ -41,41 +41,41 @@ module _ (c : In_ok-is_long) where
   restrictions : {A : Type 0} (f : ℕ → A) → f c.from-count.result ≡ f (byte_at c.args.piece.rest.now count_from)
   restrictions f = ap f (c.from-count.ensures ∙ (given_ok _ _ _ c.in_ok-rows.ensures).1)
 
-  choices : {A : Type 0} (f : Shape → ℕ → ℕ → A) → f c.over_values-values.result (rows_from + c.stride.result * c.from-count.result) c.from-amount.result ≡ f (over_values c.args.shape) (choices_from c.args.shape c.args.piece.rest.now) c.args.shape.choices
+  choices : {A : Type 0} (f : Shape → ℕ → ℕ → A) → f c.over_values-plain.result (rows_from + c.stride.result * c.from-count.result) c.from-amount.result ≡ f (over_values c.args.shape) (choices_from c.args.shape c.args.piece.rest.now) c.args.shape.choices
   choices f =
-      ap (λ (z : Shape). f z (rows_from + c.stride.result * c.from-count.result) c.from-amount.result) c.over_values-values.ensures
+      ap (λ (z : Shape). f z (rows_from + c.stride.result * c.from-count.result) c.from-amount.result) c.over_values-plain.ensures
       ∙ ap (λ (k : ℕ). f (over_values c.args.shape) k c.from-amount.result)
-      (from c.args.shape _ c.args.piece.rest.now _ _ _ _ (c.from-count.ensures ∙ (given_ok _ _ _ c.in_ok-rows.ensures).1) c.from-amount.ensures c.over_values-values.ensures c.stride.ensures c.stride-2.ensures)
+      (from c.args.shape _ c.args.piece.rest.now _ _ _ _ (c.from-count.ensures ∙ (given_ok _ _ _ c.in_ok-rows.ensures).1) c.from-amount.ensures c.over_values-plain.ensures c.stride.ensures c.stride-2.ensures)
       ∙ ap (f (over_values c.args.shape) (choices_from c.args.shape c.args.piece.rest.now)) c.from-amount.ensures
 
 pub returns-in_err-check : goal.returns-in_err-check
 unfolding inner_says
 returns-in_err-check c =
     let p = err_from_is_err_and c.from_residual.result c.from_residual.ensures.1 in
-    let r = ap (λ (n : ℕ). check (ltb n most_inners) c.fault.result) c.len-inners.ensures.value ∙ ap (check (ltb (length (listed c.args.progress.now.inners)) most_inners)) c.fault.ensures in
+    let r = ap (λ (n : ℕ). check (ltb n most_inners) c.fault.result) c.len-inners.ensures.value ∙ ap (check (ltb (length (listed c.args.noted.now.inners)) most_inners)) c.fault.ensures in
     rw (p.1, p.2) (given_fault _ _ _ (stops _ _ _ (c.in_err-check.ensures ∙ r)))
 
 pub returns-in_err-reaches : goal.returns-in_err-reaches
 unfolding inner_says
 returns-in_err-reaches c =
     let p = err_from_is_err_and c.from_residual-in_err-reaches.result c.from_residual-in_err-reaches.ensures.1 in
-    let r = ap (λ (n : ℕ). check (ltb n most_inners) c.fault.result) c.len-inners.ensures.value ∙ ap (check (ltb (length (listed c.args.progress.now.inners)) most_inners)) c.fault.ensures in
+    let r = ap (λ (n : ℕ). check (ltb n most_inners) c.fault.result) c.len-inners.ensures.value ∙ ap (check (ltb (length (listed c.args.noted.now.inners)) most_inners)) c.fault.ensures in
     rw (p.1, p.2) (given_fault _ _ _ (goes _ _ _ (c.in_ok-check.ensures ∙ r) (stops _ _ _ c.in_err-reaches.ensures)))
 
 pub returns-in_err-rows : goal.returns-in_err-rows
 unfolding inner_says
 returns-in_err-rows c =
     let p = err_from_is_err_and c.from_residual-in_err-rows.result c.from_residual-in_err-rows.ensures.1 in
-    let r = ap (λ (n : ℕ). check (ltb n most_inners) c.fault.result) c.len-inners.ensures.value ∙ ap (check (ltb (length (listed c.args.progress.now.inners)) most_inners)) c.fault.ensures in
+    let r = ap (λ (n : ℕ). check (ltb n most_inners) c.fault.result) c.len-inners.ensures.value ∙ ap (check (ltb (length (listed c.args.noted.now.inners)) most_inners)) c.fault.ensures in
     rw (p.1, p.2) (given_fault _ _ _ (goes _ _ _ (c.in_ok-check.ensures ∙ r) (goes _ _ _ c.in_ok-reaches.ensures (stops _ _ _ (given_err _ _ _ c.in_err-rows.ensures)))))
 
 pub returns-in_err-is_long : goal.returns-in_err-is_long
 unfolding inner_says
 returns-in_err-is_long c =
     let p = err_from_is_err_and c.from_residual-in_err-is_long.result c.from_residual-in_err-is_long.ensures.1 in
-    let r = ap (λ (n : ℕ). check (ltb n most_inners) c.fault.result) c.len-inners.ensures.value ∙ ap (check (ltb (length (listed c.args.progress.now.inners)) most_inners)) c.fault.ensures in
+    let r = ap (λ (n : ℕ). check (ltb n most_inners) c.fault.result) c.len-inners.ensures.value ∙ ap (check (ltb (length (listed c.args.noted.now.inners)) most_inners)) c.fault.ensures in
     let o = given_ok _ _ _ c.in_ok-rows.ensures in
-    let l = whole c.args.shape _ c.args.piece.rest.now _ _ _ _ (c.from-count.ensures ∙ o.1) c.from-amount.ensures c.over_values-values.ensures c.stride.ensures c.stride-2.ensures in
+    let l = whole c.args.shape _ c.args.piece.rest.now _ _ _ _ (c.from-count.ensures ∙ o.1) c.from-amount.ensures c.over_values-plain.ensures c.stride.ensures c.stride-2.ensures in
     rw (p.1, p.2) (given_fault _ _ _ (goes _ _ _ (c.in_ok-check.ensures ∙ r) (goes _ _ _ c.in_ok-reaches.ensures (goes _ _ _ o.0 (stops _ _ _ (c.in_err-is_long.ensures ∙ ap (long_says WitnessLength c.args.piece.offset c.args.piece.rest.now) l))))))
 
 pub returns-in_err-number : goal.returns-in_err-number

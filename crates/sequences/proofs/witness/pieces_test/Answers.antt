@@ -2,7 +2,7 @@ use Rattle.std.proofs.Common.{Ok, Option, sym, ap, ◌∙◌, subst}
 use Rattle.std.proofs.lemmas.Result.{err_from_is_err_and}
 use Rattle.std.specs.Option.{option_map}
 use Rattle.sequences.specs.declared.witness.WitnessPiece.{WitnessPiece}
-use Rattle.sequences.specs.Handed.{ReaderData, reader_of, progress_of, data_of, passed_at}
+use Rattle.sequences.specs.Handed.{ReaderData, standing, reader_of, progress_of, data_of, passed_at}
 use Rattle.formats.specs.Pieces.{pieces_from}
 use Rattle.records.specs.Records.{heading_of, shape_of}
 use Rattle.sequences.proofs.HandedSteps.{Given, some_handed, none_handed, fault_handed, comes_on}
@@ -12,7 +12,9 @@ use Rattle.sequences.proofs.witness.pieces_test.Goals as goal
 use Rattle.sequences.proofs.witness.pieces_test.Goals.{In-Some}
 
 pub loop-piece-init : goal.loop-piece-init
-loop-piece-init c = subst (Walking (shape_of (heading_of c.args.heading.now)) c.args.bytes.now (record { bytes = c.args.bytes.now; at = pieces_from })) (sym c.new-noted.ensures) (walking_begins (shape_of (heading_of c.args.heading.now)) c.args.bytes.now)
+loop-piece-init c =
+    subst (λ (q : ReaderData). Walking (shape_of (heading_of c.args.heading.now)) c.args.bytes.now q (progress_of c.new-noted.result)) (sym c.at_pieces-reader.ensures)
+    (subst (Walking (shape_of (heading_of c.args.heading.now)) c.args.bytes.now (standing c.args.bytes.now pieces_from)) (sym c.new-noted.ensures) (walking_begins (shape_of (heading_of c.args.heading.now)) c.args.bytes.now))
 
 module _ (c : In-Some) where
   handed : Given (reader_of c.loop-piece.reader) (data_of c.in-Some.piece)

@@ -35,13 +35,13 @@ module _ (shape plain : Shape) (rest : List ℕ) (count row : ℕ) (n : count �
         ∙ ap (λ (k : ℕ). plan_from shape rest + entry_stride shape * k) tests
 
 -- a chain goes on behind the first tests, of how many places there are and where the plan's count stands
-past_plan_count : {x r : Said} (c : In_ok-reaches-2) → x ≡ r → x ≡ (check (ltb (length (listed c.args.progress.now.places)) most_places) (fault_at WitnessCount (rest_from c.args.piece.offset + kind_from))
+past_plan_count : {x r : Said} (c : In_ok-reaches-2) → x ≡ r → x ≡ (check (ltb (length (listed c.args.noted.now.places)) most_places) (fault_at WitnessCount (rest_from c.args.piece.offset + kind_from))
     and_then reach_says WitnessLength c.args.piece.offset c.args.piece.rest.now (count_from + 1)
     and_then count_says WitnessCount c.args.piece.offset c.args.piece.rest.now count_from 0 most_conditions
     and_then reach_says WitnessLength c.args.piece.offset c.args.piece.rest.now (plan_count_from c.args.shape c.args.piece.rest.now + 1)
     and_then r)
 past_plan_count c e =
-    let places = ap (λ (n : ℕ). check (ltb n most_places) c.fault.result) c.len-places.ensures.value ∙ ap (check (ltb (length (listed c.args.progress.now.places)) most_places)) c.fault.ensures in
+    let places = ap (λ (n : ℕ). check (ltb n most_places) c.fault.result) c.len-places.ensures.value ∙ ap (check (ltb (length (listed c.args.noted.now.places)) most_places)) c.fault.ensures in
     let rows = given_ok _ _ _ c.in_ok-rows.ensures in
     let u = plan_count c.args.shape _ c.args.piece.rest.now _ _ (c.from-count.ensures ∙ rows.1) c.over_values-plain.ensures c.stride-stride.ensures in
     goes _ _ _ (c.in_ok-check.ensures ∙ places)
@@ -61,11 +61,11 @@ past_long c e =
     (goes _ _ _ (c.in_ok-is_long.ensures ∙ ap (λ (k : ℕ). long_says WitnessLength c.args.piece.offset c.args.piece.rest.now (k + 2)) l) e)
 
 -- and behind those of the numbers
-past_number : {x r : Said} (c : In_ok-number) → x ≡ r → x ≡ (check (eqb (length (listed c.args.progress.now.inners)) 0) (fault_at WitnessNumber (rest_from c.args.piece.offset + kind_from))
-    and_then above_says WitnessNumber c.args.piece.offset c.args.piece.rest.now number_from (last_of (listed c.args.progress.now.places))
+past_number : {x r : Said} (c : In_ok-number) → x ≡ r → x ≡ (check (eqb (length (listed c.args.noted.now.inners)) 0) (fault_at WitnessNumber (rest_from c.args.piece.offset + kind_from))
+    and_then above_says WitnessNumber c.args.piece.offset c.args.piece.rest.now number_from (last_of (listed c.args.noted.now.places))
     and_then r)
 past_number c e =
-    let inners = ap (λ (n : ℕ). check (eqb n 0) c.fault-2.result) c.len-inners.ensures.value ∙ ap (check (eqb (length (listed c.args.progress.now.inners)) 0)) c.fault-2.ensures in
+    let inners = ap (λ (n : ℕ). check (eqb n 0) c.fault-2.result) c.len-inners.ensures.value ∙ ap (check (eqb (length (listed c.args.noted.now.inners)) 0)) c.fault-2.ensures in
     let before = ap (above_says WitnessNumber c.args.piece.offset c.args.piece.rest.now number_from) c.last_of-before.ensures in
     goes _ _ _ (c.in_ok-check-2.ensures ∙ inners) (goes _ _ _ ((given_ok _ _ _ c.in_ok-number.ensures).0 ∙ before) e)
 
@@ -85,28 +85,28 @@ pub returns-in_err-check : goal.returns-in_err-check
 unfolding place_says
 returns-in_err-check c =
     let p = err_from_is_err_and c.from_residual.result c.from_residual.ensures.1 in
-    let r = ap (λ (n : ℕ). check (ltb n most_places) c.fault.result) c.len-places.ensures.value ∙ ap (check (ltb (length (listed c.args.progress.now.places)) most_places)) c.fault.ensures in
+    let r = ap (λ (n : ℕ). check (ltb n most_places) c.fault.result) c.len-places.ensures.value ∙ ap (check (ltb (length (listed c.args.noted.now.places)) most_places)) c.fault.ensures in
     rw (p.1, p.2) (given_fault _ _ _ (stops _ _ _ (c.in_err-check.ensures ∙ r)))
 
 pub returns-in_err-reaches : goal.returns-in_err-reaches
 unfolding place_says
 returns-in_err-reaches c =
     let p = err_from_is_err_and c.from_residual-in_err-reaches.result c.from_residual-in_err-reaches.ensures.1 in
-    let r = ap (λ (n : ℕ). check (ltb n most_places) c.fault.result) c.len-places.ensures.value ∙ ap (check (ltb (length (listed c.args.progress.now.places)) most_places)) c.fault.ensures in
+    let r = ap (λ (n : ℕ). check (ltb n most_places) c.fault.result) c.len-places.ensures.value ∙ ap (check (ltb (length (listed c.args.noted.now.places)) most_places)) c.fault.ensures in
     rw (p.1, p.2) (given_fault _ _ _ (goes _ _ _ (c.in_ok-check.ensures ∙ r) (stops _ _ _ c.in_err-reaches.ensures)))
 
 pub returns-in_err-rows : goal.returns-in_err-rows
 unfolding place_says
 returns-in_err-rows c =
     let p = err_from_is_err_and c.from_residual-in_err-rows.result c.from_residual-in_err-rows.ensures.1 in
-    let r = ap (λ (n : ℕ). check (ltb n most_places) c.fault.result) c.len-places.ensures.value ∙ ap (check (ltb (length (listed c.args.progress.now.places)) most_places)) c.fault.ensures in
+    let r = ap (λ (n : ℕ). check (ltb n most_places) c.fault.result) c.len-places.ensures.value ∙ ap (check (ltb (length (listed c.args.noted.now.places)) most_places)) c.fault.ensures in
     rw (p.1, p.2) (given_fault _ _ _ (goes _ _ _ (c.in_ok-check.ensures ∙ r) (goes _ _ _ c.in_ok-reaches.ensures (stops _ _ _ (given_err _ _ _ c.in_err-rows.ensures)))))
 
 pub returns-in_err-reaches-2 : goal.returns-in_err-reaches-2
 unfolding place_says
 returns-in_err-reaches-2 c =
     let p = err_from_is_err_and c.from_residual-in_err-reaches-2.result c.from_residual-in_err-reaches-2.ensures.1 in
-    let r = ap (λ (n : ℕ). check (ltb n most_places) c.fault.result) c.len-places.ensures.value ∙ ap (check (ltb (length (listed c.args.progress.now.places)) most_places)) c.fault.ensures in
+    let r = ap (λ (n : ℕ). check (ltb n most_places) c.fault.result) c.len-places.ensures.value ∙ ap (check (ltb (length (listed c.args.noted.now.places)) most_places)) c.fault.ensures in
     let o = given_ok _ _ _ c.in_ok-rows.ensures in
     let u = plan_count c.args.shape _ c.args.piece.rest.now _ _ (c.from-count.ensures ∙ o.1) c.over_values-plain.ensures c.stride-stride.ensures in
     rw (p.1, p.2) (given_fault _ _ _ (goes _ _ _ (c.in_ok-check.ensures ∙ r) (goes _ _ _ c.in_ok-reaches.ensures (goes _ _ _ o.0 (stops _ _ _ (c.in_err-reaches-2.ensures ∙ ap (λ (k : ℕ). reach_says WitnessLength c.args.piece.offset c.args.piece.rest.now (k + 1)) u))))))
@@ -135,7 +135,7 @@ unfolding place_says
 returns-in_err-check-2 c =
     let p = err_from_is_err_and c.from_residual-in_err-check-2.result c.from_residual-in_err-check-2.ensures.1 in
     let at = goal.at.returns-in_err-check-2 c in
-    let h = ap (λ (n : ℕ). check (eqb n 0) c.fault-2.result) c.len-inners.ensures.value ∙ ap (check (eqb (length (listed c.args.progress.now.inners)) 0)) c.fault-2.ensures in
+    let h = ap (λ (n : ℕ). check (eqb n 0) c.fault-2.result) c.len-inners.ensures.value ∙ ap (check (eqb (length (listed c.args.noted.now.inners)) 0)) c.fault-2.ensures in
     rw (p.1, p.2) (given_fault _ _ _ (past_plan_count at.In_ok-reaches-2 (past_long at.In_ok-is_long (stops _ _ _ (c.in_err-check-2.ensures ∙ h)))))
 
 pub returns-in_err-number : goal.returns-in_err-number
@@ -143,7 +143,7 @@ unfolding place_says
 returns-in_err-number c =
     let p = err_from_is_err_and c.from_residual-in_err-number.result c.from_residual-in_err-number.ensures.1 in
     let at = goal.at.returns-in_err-number c in
-    let h = ap (λ (n : ℕ). check (eqb n 0) c.fault-2.result) c.len-inners.ensures.value ∙ ap (check (eqb (length (listed c.args.progress.now.inners)) 0)) c.fault-2.ensures in
+    let h = ap (λ (n : ℕ). check (eqb n 0) c.fault-2.result) c.len-inners.ensures.value ∙ ap (check (eqb (length (listed c.args.noted.now.inners)) 0)) c.fault-2.ensures in
     let b = ap (above_says WitnessNumber c.args.piece.offset c.args.piece.rest.now number_from) c.last_of-before.ensures in
     rw (p.1, p.2) (given_fault _ _ _ (past_plan_count at.In_ok-reaches-2 (past_long at.In_ok-is_long (goes _ _ _ (c.in_ok-check-2.ensures ∙ h) (stops _ _ _ (given_err _ _ _ c.in_err-number.ensures ∙ b))))))
 

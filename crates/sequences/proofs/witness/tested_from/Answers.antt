@@ -20,7 +20,7 @@ use Rattle.sequences.proofs.witness.tested_from.Goals.{In-loop-i}
 -- the stride of the code is that of the definition, and the entry lies before the plan's end
 module _ (c : In-loop-i) where
   strided : 2 + c.stride-stride.result ≡ entry_stride c.args.shape
-  strided = ap (λ (k : ℕ). 2 + k) (c.stride-stride.ensures ∙ ap stride c.over_values.ensures)
+  strided = ap (λ (k : ℕ). 2 + k) (c.stride-stride.ensures ∙ ap stride c.over_values-plain.ensures)
 
   placed : c.args.from + (2 + c.stride-stride.result) * c.loop-i.i ≡ entry_from c.args.shape c.args.from c.loop-i.i
   placed = ap (λ (k : ℕ). c.args.from + k * c.loop-i.i) strided

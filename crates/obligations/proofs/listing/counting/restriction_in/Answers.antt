@@ -9,4 +9,4 @@ use Rattle.obligations.proofs.listing.counting.restriction_in.Goals as goal
 pub returns : goal.returns
 returns c =
     reached_mapped (Restriction c.args.inner.now.number) _ (λ i y h. search rules) _ _ _ _ _
-    (c.len.ensures.value ∙ sym (length-map (listed c.args.inner.now.restrictions) row_of)) c.row_at.ensures c.map_break.ensures
+    (c.len.ensures.value ∙ sym (length-map (listed c.args.inner.now.restrictions) row_of)) c.nth_of.ensures c.map_break.ensures

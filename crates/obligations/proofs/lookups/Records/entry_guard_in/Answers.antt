@@ -11,4 +11,4 @@ pub returns : goal.returns
 returns c =
     reached_mapped (Guard c.args.place.now.number c.args.entry) _ (λ i y h. search rules) _ _ _ _ _
     (c.guard_rows.ensures.value ∙ ap (λ (e : ℕ). guard_rows (given (entry_transition (place_record_of c.args.place.now) e) (transition_with (bare_table c.args.self.now)))) c.from.ensures)
-    c.row_at.ensures c.map_break.ensures
+    c.nth_of.ensures c.map_break.ensures

@@ -9,4 +9,4 @@ pub returns : goal.returns
 returns c =
     let x = Exit c.args.transition.now.number in
     subst (λ (os : List Obligation). Reached c.args.index os c.map_break.result) (one_or_none c.is_exit.result x ∙ ap (λ (b : Bool). cond b (x ∷ []) []) c.is_exit.ensures)
-    (reached_mapped (λ (k : ℕ). x) _ (λ i y h. search rules) _ _ _ _ _ c.from.ensures c.row_at.ensures c.map_break.ensures)
+    (reached_mapped (λ (k : ℕ). x) _ (λ i y h. search rules) _ _ _ _ _ c.from.ensures c.nth_of.ensures c.map_break.ensures)

@@ -7,5 +7,5 @@ use Rattle.obligations.proofs.lookups.Records.inner_with.Goals as goal
 
 pub returns : goal.returns
 returns c =
-    ap (option_map inner_of) c.record_with.ensures
+    ap (option_map inner_of) c.with_number.ensures
     ∙ first_plain inner_of (λ (x : Inner). x.number) (λ (x : InnerData). x.number) c.args.number c.args.self.now.inners.now (λ x. refl)

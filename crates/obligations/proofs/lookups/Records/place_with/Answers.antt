@@ -7,5 +7,5 @@ use Rattle.obligations.proofs.lookups.Records.place_with.Goals as goal
 
 pub returns : goal.returns
 returns c =
-    ap (option_map place_record_of) c.record_with.ensures
+    ap (option_map place_record_of) c.with_number.ensures
     ∙ first_plain place_record_of (λ (x : Place). x.number) (λ (x : PlaceData). x.number) c.args.number c.args.self.now.places.now (λ x. refl)

@@ -7,5 +7,5 @@ use Rattle.obligations.proofs.lookups.Records.transition_with.Goals as goal
 
 pub returns : goal.returns
 returns c =
-    ap (option_map transition_of) c.record_with.ensures
+    ap (option_map transition_of) c.with_number.ensures
     ∙ first_plain transition_of (λ (x : Transition). x.number) (λ (x : TransitionData). x.number) c.args.number c.args.self.now.transitions.now (λ x. refl)

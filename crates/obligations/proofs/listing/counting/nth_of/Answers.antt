@@ -2,7 +2,7 @@ use Rattle.std.proofs.Common.{inl, inr, arith}
 use Rattle.std.proofs.lemmas.Bool.{cases_lt}
 use Rattle.std.proofs.lemmas.List.FromFn.{length-range_with_len}
 use Rattle.obligations.proofs.CountedLists.{counting_found}
-use Rattle.obligations.proofs.listing.counting.row_at.Goals as goal
+use Rattle.obligations.proofs.listing.counting.nth_of.Goals as goal
 
 pub returns-in-Some : goal.returns-in-Some
 returns-in-Some c =

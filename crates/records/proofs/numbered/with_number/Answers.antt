@@ -3,7 +3,7 @@ use Rattle.std.proofs.lemmas.Iterator.{YieldsList-from_slice}
 use Rattle.std.proofs.lemmas.Iterator.Search.{find_from_yields_List}
 use Rattle.std.specs.List.{find}
 use Rattle.records.specs.Lists.{first_with}
-use Rattle.obligations.proofs.lookups.record_with.Goals as goal
+use Rattle.records.proofs.numbered.with_number.Goals as goal
 
 found_first : {X : Type 0} (num : X → ℕ) (n : ℕ) (xs : List X) → find (λ x. eqb (num x) n) xs ≡ first_with num n xs
 found_first num n [] = refl
