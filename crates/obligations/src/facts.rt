@@ -10,7 +10,6 @@ ghost use Rattle.semantics.specs.Obligations.{tests};
 
 use records::limits::MOST_TESTED;
 use records::{BoundedList, Place, PlanEntry, Transition};
-use rows::limits::COLUMNS;
 use rows::{Numbers, WrittenRow};
 
 // The greatest number of facts of an obligation.
@@ -23,10 +22,7 @@ pub type Facts = BoundedList<Numbers, MOST_FACTS>;
 pub(crate) fn no_facts() -> Facts
     ensures { listed result ≡ [] }
 {
-    BoundedList::new(Numbers {
-        coefficients: [0; COLUMNS],
-        bound: 0,
-    })
+    BoundedList::new(Numbers::default())
 }
 
 // Puts rows behind the facts.

@@ -9,7 +9,7 @@ ghost use Rattle.rows.specs.Shapes.{item_of, beyond, first_beyond};
 use crate::limits::{COLUMNS, ITEMS, Limit};
 
 // Eight coefficients and a bound with no limit but their type's: what stands in a fact sheet or is given as a goal.
-#[derive(Clone, Copy, PartialEq, Eq, Debug)]
+#[derive(Clone, Copy, PartialEq, Eq, Debug, Default)]
 pub struct Numbers {
     pub coefficients: [i64; COLUMNS],
     pub bound: i64,

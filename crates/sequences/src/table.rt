@@ -143,6 +143,7 @@ fn read_into(
 
 // Reads a table: its transitions go into the register, once the memory for all three kinds of records and every byte
 // have been tested. After a refusal the register is as it was.
+// Of the registers of the other two kinds the lengths are told, and not the registers lent, since nothing goes into them.
 pub fn read_table(
     bytes: &[u8],
     transitions: &mut Register<'_, Transition>,

@@ -24,7 +24,7 @@ pub const MOST_HELD: usize = 1_000;
 // The rows of the fact sheet at the start.
 pub const ROWS_AT_START: usize = 32;
 
-// Numbers that are all zero.
+// Numbers that are all zero, written out, since a constant calls no `default`.
 const ZEROS: Numbers = Numbers {
     coefficients: [0; COLUMNS],
     bound: 0,

@@ -8,7 +8,6 @@ use crate::goals::{after_update, with_choices};
 use crate::lookups::{Records, row_with};
 use crate::question::Question;
 use rows::Numbers;
-use rows::limits::COLUMNS;
 use semantics::Obligation;
 
 impl<'a> Records<'a> {
@@ -64,8 +63,8 @@ impl<'a> Records<'a> {
         let from = self.place_with(transition.start)?;
         let facts = condition_and_guard(from, transition);
         let goal = Numbers {
-            coefficients: [0; COLUMNS],
             bound: -1,
+            ..Numbers::default()
         };
         Some(Question { facts, goal })
     }

@@ -2,7 +2,6 @@
 ghost use Rattle.rows.specs.Zeros.{zero_numbers};
 ghost use Rattle.std.specs.Prelude.{◌≡◌};
 
-use crate::limits::COLUMNS;
 use crate::numbers::Numbers;
 use crate::written::WrittenRow;
 
@@ -11,10 +10,8 @@ impl WrittenRow {
     pub fn zero() -> WrittenRow
         ensures { result.numbers ≡ zero_numbers }
     {
-        let numbers = Numbers {
-            coefficients: [0; COLUMNS],
-            bound: 0,
-        };
-        WrittenRow { numbers }
+        WrittenRow {
+            numbers: Numbers::default(),
+        }
     }
 }
