@@ -17,7 +17,7 @@ pub enum Layer {
     Split,
 }
 
-// A base with at most two layers over it, top first.
+// A base with at most two layers over it, top first. No list of layers: the type itself holds at most two.
 #[derive(Clone, Copy, PartialEq, Eq, Debug)]
 pub enum Stack {
     Bare(Base),

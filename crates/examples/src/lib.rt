@@ -9,7 +9,7 @@ fn theorem()
     ensures { WorkedExamples }
 {}
 
-// Every worked example holds: the contract is the theorem.
+// Every worked example holds: the contract is the theorem. The number says nothing more: it was promised, and stays.
 pub fn worked_examples_hold() -> u8
     ensures value { result ≡ 0 }
     ensures hold { WorkedExamples }

@@ -35,6 +35,7 @@ fn first_used(goal: &Numbers) -> Option<usize>
 }
 
 // Whether no column is used; the first that is one is the fault.
+// Not by the columns test of `methods`: that one takes a closure, asks that it can be called, and so is not public.
 fn columns_test(goal: &Numbers) -> Answer
     ensures { result ≡ unless_found ColumnDiffers (first_below (uses goal.now) columns) }
 {

@@ -98,6 +98,7 @@ impl ProofMethod for Multipliers {
         ensures stated { (f : Fault) → result ≡ Err f → Stated f }
         ensures exactly { YesExactly result MultipliersYes claim.entry.count sheet.old claim.entry.goal.now claim.entry.certificate.now }
     {
+        // The same two lines as the look-up's: what differs behind the opening is the method.
         let facts = opening(claim, sheet)?;
         sums_test(facts, claim.goal, claim.certificate)
     }

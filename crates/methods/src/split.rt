@@ -107,7 +107,7 @@ impl<M: ProofMethod> ProofMethod for Split<M> {
         ensures exactly { YesExactly result (SplitYes (M.ProofMethod.meaning self.now.below)) claim.entry.count sheet.old claim.entry.goal.now claim.entry.certificate.now }
     {
         opening(claim, sheet)?;
-        // Not shared by the three layers: a public helper may ask nothing of its callers, and one with a closure would.
+        // Not shared by the layers: a public helper with a closure would ask something, and one for two would be as long.
         match FirstByte::read(claim.certificate)? {
             FirstByte::HandDown => ask_below(&self.below, sheet, claim, 1),
             FirstByte::Own => self.own(sheet, claim),

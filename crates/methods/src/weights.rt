@@ -43,7 +43,7 @@ impl<'a> WeightedFacts<'a> {
         requires inside { from + 2 * length facts.now ≤ length certificate.now }
         ensures { MatchResult result (λ w. (Ok tt ≡ weights_say certificate.now from facts.now) × (w.facts.now ≡ facts.now) × (w.certificate.now ≡ certificate.now) × (w.from ≡ from)) (λ f. Err f ≡ weights_say certificate.now from facts.now) }
     {
-        // `index` counts multipliers of two bytes each, and indexes no list.
+        // `index` counts multipliers of two bytes each: a fault names the byte at which one stands.
         for index in 0..facts.len() {
             weight_at(certificate, from + 2 * index, 0)?;
         }

@@ -57,6 +57,7 @@ fn add_opposites(facts: &mut Facts, tested: &BoundedList<PlanEntry, MOST_TESTED>
 }
 
 // The transition of an entry of a plan, if there is such an entry.
+// A place and an entry's index are no struct: an index may be that of no entry, and is `u8` or `usize` by where it stands.
 pub(crate) fn entry_transition(place: &Place, entry: usize) -> Option<u16>
     ensures { result ≡ entry_transition (place_record_of place.now) entry }
 {

@@ -7,6 +7,7 @@ use crate::limits::MOST_INITIAL;
 use rows::WrittenRow;
 
 // How many state values and choices there are, within their limits, and where and with which rows met a run starts.
+// The two counts are no `Shape` inside: a shape may have any counts, and these are held to the limits of a table.
 #[derive(Clone, Copy)]
 pub struct Heading {
     pub values: u8,

@@ -93,6 +93,7 @@ impl Reply {
     pub fn unless_refused(self, answer: Answer) -> Reply
         ensures { result ≡ unless_refused self answer }
     {
+        // A match: `map_or_else` would name the refusal first, and read no plainer.
         match answer {
             Ok(()) => self,
             Err(fault) => Reply::Refused(fault),

@@ -60,7 +60,7 @@ impl Named<'_> {
         let plan_count_from = ROWS_FROM + stride * rows;
         let count = usize::from(byte_at(piece.rest, plan_count_from));
         let place = word_at(piece.rest, NUMBER_FROM);
-        // `e` counts entries, each of a fixed size in bytes, and indexes no list.
+        // `e` counts entries, each of a fixed size in bytes: a fault names the byte at which one stands.
         for e in 0..count {
             let at = plan_count_from + 1 + (TRANSITION_BYTES + stride) * e;
             let number = word_at(piece.rest, at);

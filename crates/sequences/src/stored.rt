@@ -21,6 +21,7 @@ fn item_at(bytes: &[u8], shape: Shape, at: usize, item: usize) -> i64
 }
 
 // The numbers of the row at an offset, not yet tested.
+// No shared function of a closure over the items: it would be public in rows, and public functions ask nothing.
 fn numbers_at(bytes: &[u8], shape: Shape, at: usize) -> Numbers
     ensures { result ≡ row_at shape bytes.now at }
 {

@@ -77,6 +77,7 @@ fn content_test(bytes: &[u8]) -> Result<Heading, Fault>
 }
 
 // Whether memory for so many records of each kind is enough for every table and witness.
+// One test, as its definition is one, and not a test before a call of the witness's memory test.
 fn memory_test(transitions: usize, places: usize, inners: usize) -> Answer
     ensures { result ≡ memory_says transitions places inners }
 {

@@ -51,7 +51,7 @@ fn tested_from(
     });
     let plain = shape.over_values();
     let stride = TRANSITION_BYTES + plain.stride();
-    // `i` counts entries, each of a fixed size in bytes, and indexes no list.
+    // `i` counts entries, each of a fixed size in bytes: a fault names the byte at which one stands.
     for i in 0..count {
         let at = from + stride * i;
         let test = row_at(
@@ -121,6 +121,7 @@ fn place_from(piece: Piece<'_>, shape: Shape, noted: &Noted) -> Result<Place, Fa
 }
 
 // The inner transition in a piece.
+// Not one function with `place_from`: the tests are alike, and every field of the two pieces is another.
 fn inner_from(piece: Piece<'_>, shape: Shape, noted: &Noted) -> Result<Inner, Fault>
     requires { shape.choices ≤ most_choices }
     ensures { plainly inner_of result ≡ giving (inner_says shape (listed noted.now.inners) piece.entry.offset piece.entry.rest.now) (inner_at shape piece.entry.rest.now) }

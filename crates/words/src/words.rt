@@ -46,6 +46,7 @@ impl<'a> Iterator for Words<'a> {
         let text = self.rest.trim_start_matches(SEPARATORS);
         let (word, rest) = text.split_at(word_length(text));
         self.rest = rest;
+        // An `if`, since with `then_some` the goals of all four clauses stayed open.
         if word.is_empty() { None } else { Some(word) }
     }
 }

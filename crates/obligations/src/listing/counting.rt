@@ -18,6 +18,7 @@ fn nth_of(rows: usize, index: usize) -> ControlFlow<u8, usize>
     requires { rows ≤ 256 }
     ensures { Reached index (range_with_len 0 rows) result }
 {
+    // A match and no `map_or`, since the cast is in range in its own branch alone.
     match index.checked_sub(rows) {
         Some(left) => ControlFlow::Continue(left),
         None => ControlFlow::Break(index as u8),

@@ -14,6 +14,7 @@ impl<const N: usize> Values<N> {
     pub fn new(values: [i64; N]) -> Option<Values<N>>
         ensures { ValuesFrom N values.entry result }
     {
+        // An `if` and no `then`, since what the type holds is shown in its branch.
         if values.iter().all(|value| Limit::StateValue.admits(*value)) {
             Some(Values { values })
         } else {

@@ -9,6 +9,7 @@ use rows::{Answer, Fault, FaultKind, check};
 
 impl Piece<'_> {
     // The fault at a byte of the rest, or at its end.
+    // Three functions ask that an offset lies within the rest: it belongs to one call, and no struct holds it.
     pub(crate) fn fault(self, kind: FaultKind, at: usize) -> Fault
         requires { at ≤ length self.rest.now }
         ensures { result ≡ fault_at kind (rest_from self.entry.offset + at) }
