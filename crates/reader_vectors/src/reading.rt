@@ -131,7 +131,10 @@ pub fn expect_built_table(
 }
 
 // Reads a table, and does with it what is to be done.
-pub fn with_table<T, F: FnOnce(TableView<'_>) -> T>(table: &[u8], work: F) -> Result<T, Fault>
+pub(crate) fn with_table<T, F: FnOnce(TableView<'_>) -> T>(
+    table: &[u8],
+    work: F,
+) -> Result<T, Fault>
     requires { F.IsAlwaysCallable work }
 {
     let mut records = [unread_transition(); 24];
