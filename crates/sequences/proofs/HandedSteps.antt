@@ -1,12 +1,13 @@
 -- What the reader of a witness hands out, by cases: no byte is left, a fault, or a piece.
-use Rattle.std.proofs.Common.{◌≡◌, ℕ, ◌-◌, ◌<◌, ◌≤◌, ltb, length, Some, None, Ok, Err, sym, refl, ap, ◌∙◌, subst, inl, inr, arith}
+use Rattle.std.proofs.Common.{◌≡◌, ℕ, ◌+◌, ◌-◌, ◌^◌, ◌<◌, ◌≤◌, ltb, length, drop, Some, None, Ok, Err, sym, refl, ap, ◌∙◌, subst, inl, inr, arith, length-take}
 use Rattle.std.proofs.lemmas.Bool.{lt-ltb, le-ltb, cond-true, cond-false, cases_lt, cond_both}
 use Rattle.rows.specs.declared.fault.Fault.{Fault}
 use Rattle.rows.specs.declared.fault.FaultKind.TheVariants.{WitnessLength}
+use Rattle.rows.specs.Bytes.{word_at}
 use Rattle.rows.specs.Faults.{Said}
 use Rattle.rows.proofs.Chains.{both}
 use Rattle.sequences.specs.Handed.{ReaderData, standing, part_found, handed_at, passed_at, passing}
-use Rattle.formats.specs.Pieces.{piece_end, piece_says, giving}
+use Rattle.formats.specs.Pieces.{rest_from, piece_end, piece_says, giving}
 use Rattle.formats.specs.Walks.{PieceData, piece_data}
 use Rattle.formats.specs.Witnesses.{PartData, PlacePart, InnerPart, is_place, part_of, within, kind_says}
 use Rattle.formats.proofs.PieceTests.{given_fault, given, given_ok, given_err, found_ends}
@@ -90,10 +91,16 @@ module _ (r : ReaderData) where
 pub within_part : (p : PieceData) → within (part_of p) ≡ p
 within_part p = cond_both (is_place p) (PlacePart p) (InnerPart p) (λ (q : PartData). within q ≡ p) (λ _. refl) (λ _. refl)
 
--- it is the piece that stands there, and the reader comes on
+-- it is the piece that stands there, its bytes all have an offset, and the reader comes on
 module _ (r : ReaderData) (p : PartData) (g : Given r p) where
   pub part_is : within p ≡ piece_data r.bytes r.at
   part_is = ap within g.part ∙ within_part (piece_data r.bytes r.at)
+
+  pub part_located : length r.bytes < 2 ^ 64 → rest_from (within p).offset + length (within p).rest < 2 ^ 64
+  part_located h =
+      let e = g.ends in
+      let l = length-take (word_at r.bytes r.at) (drop (rest_from r.at) r.bytes) in
+      subst (λ (q : PieceData). rest_from q.offset + length q.rest < 2 ^ 64) (sym part_is) (omega (arith, e, l, h))
 
   pub comes_on : (q : ReaderData) → q ≡ passed_at r → length q.bytes - q.at < length r.bytes - r.at
   comes_on q e =

@@ -4,8 +4,11 @@ use Rattle.rows.specs.declared.fault.Fault.{Fault}
 use Rattle.rows.specs.declared.fault.FaultKind.TheVariants.{WitnessLength}
 use Rattle.rows.specs.Faults.{Said, ◌and_then◌}
 use Rattle.sequences.specs.declared.piece.Piece.{Piece}
+use Rattle.sequences.specs.declared.piece.LocatedPiece.{LocatedPiece}
 use Rattle.sequences.specs.declared.witness.WitnessPiece.{WitnessPiece}
 use Rattle.sequences.specs.declared.witness.WitnessPiece.TheVariants.{Place, Transition}
+use Rattle.sequences.specs.declared.witness.LocatedPart.{LocatedPart}
+use Rattle.sequences.specs.declared.witness.LocatedPart.TheVariants.{Place as LocatedPlace, Transition as LocatedTransition}
 use Rattle.sequences.specs.declared.witness.WitnessReader.{WitnessReader}
 use Rattle.sequences.specs.declared.witness.WitnessRecord.{WitnessRecord}
 use Rattle.sequences.specs.declared.witness.WitnessRecord.TheVariants.{Listed, Declared}
@@ -16,6 +19,14 @@ use Rattle.formats.specs.Pieces.{piece_says, piece_end, giving}
 use Rattle.formats.specs.Walks.{PieceData, piece_data}
 use Rattle.formats.specs.Witnesses.{PartData, PlacePart, InnerPart, part_of, kind_says, Progress, RecordData, PlaceRecord, InnerRecord}
 
+-- a piece that was found, as a user gets it
+abbrev pub plain_piece : LocatedPiece → Piece
+plain_piece p = record { offset = p.offset; rest = p.rest }
+
+abbrev pub plain_part : LocatedPart → WitnessPiece
+plain_part (LocatedPlace p) = Place (plain_piece p)
+plain_part (LocatedTransition p) = Transition (plain_piece p)
+
 -- what the code's pieces, and what it reads from them, say in the words of the definitions
 abbrev pub piece_of : Piece → PieceData
 piece_of p = record { offset = p.offset; rest = p.rest.now }
@@ -23,6 +34,9 @@ piece_of p = record { offset = p.offset; rest = p.rest.now }
 abbrev pub data_of : WitnessPiece → PartData
 data_of (Place p) = PlacePart (piece_of p)
 data_of (Transition p) = InnerPart (piece_of p)
+
+abbrev pub located_of : LocatedPart → PartData
+located_of p = data_of (plain_part p)
 
 abbrev pub record_of : WitnessRecord → RecordData
 record_of (Listed p) = PlaceRecord (place_record_of p)

@@ -57,7 +57,7 @@ fn fill(
 {
     let mut reader = WitnessReader::at_pieces(bytes);
     let mut noted = Noted::new();
-    while let Some(piece) = reader.next()? {
+    while let Some(piece) = reader.next_located()? {
         let found = noted.read(piece, heading)?;
         keep(found, places, inners);
     }

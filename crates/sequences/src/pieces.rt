@@ -2,8 +2,10 @@
 ghost use Rattle.std.specs.Prelude.{◌≡◌, ℕ, ◌≤◌, length};
 ghost use Rattle.formats.specs.Pieces.{version_says};
 ghost use Rattle.sequences.specs.PiecesFound.{piece_found};
+ghost use Rattle.sequences.specs.Handed.{plain_piece};
+ghost use Rattle.sequences.specs.StoredMade.{plainly};
 
-use crate::piece::{LENGTH_BYTES, Piece};
+use crate::piece::{LENGTH_BYTES, LocatedPiece};
 use rows::bytes::word_at;
 use rows::{Answer, Fault, FaultKind};
 
@@ -23,13 +25,17 @@ pub(crate) fn version_test(bytes: &[u8], kind: FaultKind) -> Answer
 }
 
 // The piece that begins at an offset, where its length field and its rest lie within the input.
-pub(crate) fn piece_at<'a>(input: &'a [u8], at: usize, kind: FaultKind) -> Result<Piece<'a>, Fault>
-    ensures { piece_found kind input.now at result }
+pub(crate) fn piece_at<'a>(
+    input: &'a [u8],
+    at: usize,
+    kind: FaultKind,
+) -> Result<LocatedPiece<'a>, Fault>
+    ensures { piece_found kind input.now at (plainly plain_piece result) }
 {
     let fault = Fault::at(kind, at);
     let from = at.saturating_add(LENGTH_BYTES);
     let left = input.get(from..).ok_or(fault)?;
     let length = usize::from(word_at(input, at));
     let rest = left.get(..length).ok_or(fault)?;
-    Ok(Piece { offset: at, rest })
+    Ok(LocatedPiece { offset: at, rest })
 }

@@ -1,7 +1,7 @@
 // Whether a witness fits together with its table and in itself.
 ghost use Rattle.std.specs.Prelude.{◌≡◌, ℕ, ◌≤◌, length, Ok};
 ghost use Rattle.records.specs.Bounded.{listed};
-ghost use Rattle.sequences.specs.Handed.{data_of, progress_of};
+ghost use Rattle.sequences.specs.Handed.{located_of, progress_of};
 ghost use Rattle.records.specs.Lists.{first_with, among};
 ghost use Rattle.records.specs.Records.{TransitionData, transition_of};
 ghost use Rattle.formats.specs.Witnesses.{entry_fits, inner_fits, place_length, plan_says, reference_by, references_say, pieces_of, pieces_say, named_in};
@@ -9,10 +9,10 @@ ghost use Rattle.sequences.specs.TableGiven.{shape_in, transitions_in, named_of,
 ghost use Rattle.std.specs.Option.{option_map};
 
 use crate::named::Named;
-use crate::piece::Piece;
+use crate::piece::LocatedPiece;
 use crate::view::TableView;
 use crate::witness::{
-    COUNT_FROM, NUMBER_FROM, Noted, ROWS_FROM, TRANSITION_BYTES, WitnessPiece, WitnessReader,
+    COUNT_FROM, LocatedPart, NUMBER_FROM, Noted, ROWS_FROM, TRANSITION_BYTES, WitnessReader,
 };
 use records::{BoundedList, Transition, with_number};
 use rows::bytes::{byte_at, word_at};
@@ -51,7 +51,7 @@ impl Named<'_> {
     }
 
     // Tests the entries of a plan.
-    fn plan_test(self, piece: Piece<'_>) -> Answer
+    fn plan_test(self, piece: LocatedPiece<'_>) -> Answer
         requires { place_length (shape_in self.table) piece.rest.now ≤ length piece.rest.now }
         ensures { result ≡ plan_says (shape_in self.entry.table) (named_of self.entry) piece.entry.offset piece.entry.rest.now }
     {
@@ -71,13 +71,13 @@ impl Named<'_> {
     }
 
     // Tests what a piece refers to.
-    fn reference_test(self, piece: WitnessPiece<'_>) -> Answer
-        requires { Reached (shape_in self.table) (data_of piece) }
-        ensures { result ≡ reference_by (shape_in self.entry.table) (named_of self.entry) (data_of piece.entry) }
+    fn reference_test(self, piece: LocatedPart<'_>) -> Answer
+        requires { Reached (shape_in self.table) (located_of piece) }
+        ensures { result ≡ reference_by (shape_in self.entry.table) (named_of self.entry) (located_of piece.entry) }
     {
         match piece {
-            WitnessPiece::Place(part) => self.plan_test(part),
-            WitnessPiece::Transition(part) => {
+            LocatedPart::Place(part) => self.plan_test(part),
+            LocatedPart::Transition(part) => {
                 let fits = self.inner_fits(word_at(part.rest, NUMBER_FROM));
                 check(fits, part.fault(FaultKind::WitnessReference, NUMBER_FROM))
             }
@@ -92,7 +92,7 @@ pub(crate) fn references_test(bytes: &[u8], table: TableView<'_>, noted: &Noted)
 {
     let mut reader = WitnessReader::at_pieces(bytes);
     let named = Named { table, noted };
-    while let Some(piece) = reader.next()? {
+    while let Some(piece) = reader.next_located()? {
         named.reference_test(piece)?;
     }
     Ok(())

@@ -1,10 +1,11 @@
 // Rows and expressions that stand in bytes.
 ghost use Rattle.std.specs.Prelude.{◌≡◌, ℕ, ◌+◌, ◌*◌, ◌^◌, ◌<◌, ◌≤◌, length};
 ghost use Rattle.sequences.specs.StoredMade.{row_from, rows_from};
+ghost use Rattle.sequences.specs.Handed.{plain_piece};
 ghost use Rattle.formats.specs.StoredRows.{item_at, row_at};
 ghost use Rattle.records.specs.Slots.{stride};
 
-use crate::piece::{LENGTH_BYTES, Piece};
+use crate::piece::{LENGTH_BYTES, LocatedPiece};
 use records::{BoundedList, Shape, Written};
 use rows::bytes::number_at;
 use rows::limits::COLUMNS;
@@ -34,13 +35,13 @@ fn numbers_at(bytes: &[u8], shape: Shape, at: usize) -> Numbers
 // The row or expression at an offset of a piece's rest, once its numbers are tested.
 // The piece and the shape are no struct: the rows of one piece have two shapes.
 pub(crate) fn row_at<T: Written>(
-    piece: Piece<'_>,
+    piece: LocatedPiece<'_>,
     shape: Shape,
     at: usize,
     kind: FaultKind,
 ) -> Result<T, Fault>
     requires { at + stride shape ≤ length piece.rest.now }
-    ensures { row_from T.Written.plain kind shape piece.entry at result }
+    ensures { row_from T.Written.plain kind shape (plain_piece piece.entry) at result }
 {
     T::written(numbers_at(piece.rest, shape, at)).map_err(|too_large| {
         let slot = shape.slot(usize::from(too_large.item)).unwrap_or(0);
@@ -51,7 +52,7 @@ pub(crate) fn row_at<T: Written>(
 
 // Rows or expressions one behind another.
 pub(crate) fn rows_at<T: Written, const N: usize>(
-    piece: Piece<'_>,
+    piece: LocatedPiece<'_>,
     shape: Shape,
     from: usize,
     count: usize,
@@ -59,7 +60,7 @@ pub(crate) fn rows_at<T: Written, const N: usize>(
 ) -> Result<BoundedList<T, N>, Fault>
     requires room { count ≤ N }
     requires within { from + stride shape * count ≤ length piece.rest.now }
-    ensures { rows_from T.Written.plain kind shape piece.entry from count result }
+    ensures { rows_from T.Written.plain kind shape (plain_piece piece.entry) from count result }
 {
     let mut rows = BoundedList::new(T::zero());
     let stride = shape.stride();

@@ -9,7 +9,7 @@ ghost use Rattle.records.specs.Held.{held, behind, room, ReadInto};
 ghost use Rattle.formats.specs.Tables.{heading_at, heading_says, table_at, content_says, table_says, memory_says, open_says};
 ghost use Rattle.sequences.specs.TransitionsHanded.{reading_of, coming, coming_say};
 
-use crate::piece::Piece;
+use crate::piece::LocatedPiece;
 use crate::pieces::{PIECES_FROM, piece_at, version_test};
 use crate::stored::rows_at;
 use crate::transitions::TransitionReader;
@@ -32,7 +32,7 @@ const INITIAL_COUNT_FROM: usize = 4;
 const INITIAL_FROM: usize = 5;
 
 // The heading in a piece.
-fn heading_from(piece: Piece<'_>) -> Result<Heading, Fault>
+fn heading_from(piece: LocatedPiece<'_>) -> Result<Heading, Fault>
     ensures { plainly heading_of result ≡ giving (heading_says piece.entry.offset piece.entry.rest.now) (heading_at piece.entry.rest.now) }
 {
     piece.reaches(VALUES_FROM + 1, FaultKind::TableLength)?;

@@ -1,7 +1,7 @@
 // Reading the pieces of a witness.
 ghost use Rattle.std.specs.Prelude.{◌≡◌, ℕ, ◌+◌, ◌-◌, ◌*◌, ◌^◌, ◌<◌, ◌≤◌, length, is_ok, if◌then◌else◌};
 ghost use Rattle.records.specs.Limits.{most_choices, most_tested};
-ghost use Rattle.sequences.specs.Handed.{piece_of, data_of, record_of, progress_of, reader_of, standing, handed_at, passed_at};
+ghost use Rattle.sequences.specs.Handed.{plain_piece, plain_part, piece_of, data_of, located_of, record_of, progress_of, reader_of, standing, handed_at, passed_at};
 ghost use Rattle.formats.specs.Pieces.{giving, pieces_from, version_says};
 ghost use Rattle.rows.specs.declared.fault.FaultKind.TheVariants.{WitnessVersion};
 ghost use Rattle.std.specs.Option.{option_map};
@@ -11,7 +11,7 @@ ghost use Rattle.records.specs.Bounded.{plain_list};
 ghost use Rattle.formats.specs.Witnesses.{last_of, entry_from, entry_stride, tested_at, tested_say, place_at, place_says, inner_at, inner_says, kind_says, part_of, begun, body_by, further_by, record_by, pieces_say, witness_at, numbers_in};
 ghost use Rattle.records.specs.Bounded.{listed};
 
-use crate::piece::Piece;
+use crate::piece::{LocatedPiece, Piece};
 use crate::pieces::{PIECES_FROM, piece_at, version_test};
 use crate::stored::{row_at, rows_at};
 use records::limits::{
@@ -36,7 +36,7 @@ pub(crate) const TRANSITION_BYTES: usize = 2;
 // The entries of a plan that have a test.
 // The piece and the shape are no struct: the tests are rows over the values alone, with a shape of their own.
 fn tested_from(
-    piece: Piece<'_>,
+    piece: LocatedPiece<'_>,
     shape: Shape,
     from: usize,
     count: usize,
@@ -82,7 +82,7 @@ pub struct Noted {
 
 // The listed place in a piece.
 // The shape is the whole table's, and no part of the piece: a struct of both would join what does not belong together.
-fn place_from(piece: Piece<'_>, shape: Shape, noted: &Noted) -> Result<Place, Fault>
+fn place_from(piece: LocatedPiece<'_>, shape: Shape, noted: &Noted) -> Result<Place, Fault>
     ensures { plainly place_record_of result ≡ giving (place_says shape (listed noted.now.places) (listed noted.now.inners) piece.entry.offset piece.entry.rest.now) (place_at shape piece.entry.rest.now) }
 {
     let places = noted.places.len();
@@ -122,7 +122,7 @@ fn place_from(piece: Piece<'_>, shape: Shape, noted: &Noted) -> Result<Place, Fa
 
 // The inner transition in a piece.
 // Not one function with `place_from`: the tests are alike, and every field of the two pieces is another.
-fn inner_from(piece: Piece<'_>, shape: Shape, noted: &Noted) -> Result<Inner, Fault>
+fn inner_from(piece: LocatedPiece<'_>, shape: Shape, noted: &Noted) -> Result<Inner, Fault>
     requires { shape.choices ≤ most_choices }
     ensures { plainly inner_of result ≡ giving (inner_says shape (listed noted.now.inners) piece.entry.offset piece.entry.rest.now) (inner_at shape piece.entry.rest.now) }
 {
@@ -167,6 +167,25 @@ pub enum WitnessPiece<'a> {
     Transition(Piece<'a>),
 }
 
+// A piece that was found in a witness, by its kind.
+#[derive(Clone, Copy)]
+pub(crate) enum LocatedPart<'a> {
+    Place(LocatedPiece<'a>),
+    Transition(LocatedPiece<'a>),
+}
+
+impl<'a> LocatedPart<'a> {
+    // The piece as a user gets it.
+    fn plain(self) -> WitnessPiece<'a>
+        ensures { result ≡ plain_part self.entry }
+    {
+        match self {
+            LocatedPart::Place(piece) => WitnessPiece::Place(piece.plain()),
+            LocatedPart::Transition(piece) => WitnessPiece::Transition(piece.plain()),
+        }
+    }
+}
+
 // What a piece holds: the record that was read from its bytes. So it is another enum than `WitnessPiece`.
 #[derive(Clone, Copy)]
 pub enum WitnessRecord {
@@ -187,13 +206,13 @@ const PLACE_KIND: u8 = 1;
 const INNER_KIND: u8 = 2;
 
 // The kind of a piece, from its byte.
-fn kind_of<'a>(piece: Piece<'a>) -> Result<WitnessPiece<'a>, Fault>
-    ensures { plainly data_of result ≡ giving (kind_says (piece_of piece.entry)) (part_of (piece_of piece.entry)) }
+fn kind_of<'a>(piece: LocatedPiece<'a>) -> Result<LocatedPart<'a>, Fault>
+    ensures { plainly located_of result ≡ giving (kind_says (piece_of (plain_piece piece.entry))) (part_of (piece_of (plain_piece piece.entry))) }
 {
     piece.reaches(KIND_FROM + 1, FaultKind::WitnessLength)?;
     match byte_at(piece.rest, KIND_FROM) {
-        PLACE_KIND => Ok(WitnessPiece::Place(piece)),
-        INNER_KIND => Ok(WitnessPiece::Transition(piece)),
+        PLACE_KIND => Ok(LocatedPart::Place(piece)),
+        INNER_KIND => Ok(LocatedPart::Transition(piece)),
         _ => Err(piece.fault(FaultKind::WitnessCount, KIND_FROM)),
     }
 }
@@ -223,6 +242,14 @@ impl<'a> WitnessReader<'a> {
         ensures handed { plainly (option_map data_of) result ≡ handed_at (reader_of self.old) }
         ensures stands { reader_of self.new ≡ passed_at (reader_of self.old) }
     {
+        Ok(self.next_located()?.map(|part| part.plain()))
+    }
+
+    // The same, for the walks of this crate: what they call on a piece needs that each of its bytes has an offset.
+    pub(crate) fn next_located(&mut self) -> Result<Option<LocatedPart<'a>>, Fault>
+        ensures handed { plainly (option_map located_of) result ≡ handed_at (reader_of self.old) }
+        ensures stands { reader_of self.new ≡ passed_at (reader_of self.old) }
+    {
         if self.at >= self.bytes.len() {
             return Ok(None);
         }
@@ -247,20 +274,20 @@ impl Noted {
     // The record in a piece, once it is tested; its number is noted.
     pub(crate) fn read(
         &mut self,
-        piece: WitnessPiece<'_>,
+        piece: LocatedPart<'_>,
         heading: &Heading,
     ) -> Result<WitnessRecord, Fault>
-        ensures answer { plainly record_of result ≡ giving (body_by (shape_of (heading_of heading.now)) (progress_of self.old) (data_of piece.entry)) (record_by (shape_of (heading_of heading.now)) (data_of piece.entry)) }
-        ensures after { progress_of self.new ≡ (if is_ok result then further_by (progress_of self.old) (data_of piece.entry) else progress_of self.old) }
+        ensures answer { plainly record_of result ≡ giving (body_by (shape_of (heading_of heading.now)) (progress_of self.old) (located_of piece.entry)) (record_by (shape_of (heading_of heading.now)) (located_of piece.entry)) }
+        ensures after { progress_of self.new ≡ (if is_ok result then further_by (progress_of self.old) (located_of piece.entry) else progress_of self.old) }
     {
         let shape = heading.shape();
         match piece {
-            WitnessPiece::Place(part) => {
+            LocatedPart::Place(part) => {
                 let place = place_from(part, shape, self)?;
                 self.places.push(place.number);
                 Ok(WitnessRecord::Listed(place))
             }
-            WitnessPiece::Transition(part) => {
+            LocatedPart::Transition(part) => {
                 let inner = inner_from(part, shape, self)?;
                 self.inners.push(inner.number);
                 Ok(WitnessRecord::Declared(inner))
@@ -275,7 +302,7 @@ pub(crate) fn pieces_test(bytes: &[u8], heading: &Heading) -> Result<Noted, Faul
 {
     let mut reader = WitnessReader::at_pieces(bytes);
     let mut noted = Noted::new();
-    while let Some(piece) = reader.next()? {
+    while let Some(piece) = reader.next_located()? {
         noted.read(piece, heading)?;
     }
     Ok(noted)

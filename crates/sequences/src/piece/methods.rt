@@ -2,12 +2,23 @@
 ghost use Rattle.std.specs.Prelude.{◌≡◌, ℕ, ◌+◌, ◌≤◌, length};
 ghost use Rattle.formats.specs.Pieces.{rest_from, byte_at, fault_at, reach_says, long_says, count_says, above_says, giving};
 ghost use Rattle.rows.specs.Bytes.{word_at};
+ghost use Rattle.sequences.specs.Handed.{plain_piece};
 
-use crate::piece::{LENGTH_BYTES, Piece};
+use crate::piece::{LENGTH_BYTES, LocatedPiece, Piece};
 use rows::bytes::{byte_at, word_at};
 use rows::{Answer, Fault, FaultKind, check};
 
-impl Piece<'_> {
+impl<'a> LocatedPiece<'a> {
+    // The piece as a user gets it.
+    pub(crate) fn plain(self) -> Piece<'a>
+        ensures { result ≡ plain_piece self.entry }
+    {
+        Piece {
+            offset: self.offset,
+            rest: self.rest,
+        }
+    }
+
     // The fault at a byte of the rest, or at its end.
     // Three functions ask that an offset lies within the rest: it belongs to one call, and no struct holds it.
     pub(crate) fn fault(self, kind: FaultKind, at: usize) -> Fault

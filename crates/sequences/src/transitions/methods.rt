@@ -6,7 +6,7 @@ ghost use Rattle.records.specs.Records.{heading_of, shape_of, transition_of};
 ghost use Rattle.sequences.specs.StoredMade.{plainly};
 ghost use Rattle.sequences.specs.TransitionsHanded.{reading_of, starting, HandedOut};
 
-use crate::piece::{LENGTH_BYTES, Piece};
+use crate::piece::{LENGTH_BYTES, LocatedPiece};
 use crate::pieces::{PIECES_FROM, piece_at};
 use crate::stored::rows_at;
 use crate::transitions::TransitionReader;
@@ -49,7 +49,7 @@ impl<'a> TransitionReader<'a> {
     }
 
     // The transition in a piece.
-    fn transition(&self, piece: Piece<'_>) -> Result<Transition, Fault>
+    fn transition(&self, piece: LocatedPiece<'_>) -> Result<Transition, Fault>
         ensures { plainly transition_of result ≡ giving (transition_says self.now.shape self.now.room self.now.last piece.entry.offset piece.entry.rest.now) (transition_at self.now.shape piece.entry.rest.now) }
     {
         piece.reaches(GUARD_COUNT_FROM + 1, FaultKind::TableLength)?;

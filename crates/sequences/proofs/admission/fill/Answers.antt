@@ -1,9 +1,9 @@
 use Rattle.std.proofs.Common.{◌≡◌, ℕ, ◌≤◌, List, map, drop, Ok, Option, sym, refl, ap, ◌∙◌, subst}
 use Rattle.std.specs.Option.{option_map}
 use Rattle.rows.proofs.Chains.{never}
-use Rattle.sequences.specs.declared.witness.WitnessPiece.{WitnessPiece}
+use Rattle.sequences.specs.declared.witness.LocatedPart.{LocatedPart}
 use Rattle.sequences.specs.Admitted.{Roomy, places_added, inners_added, place_count, inner_count}
-use Rattle.sequences.specs.Handed.{ReaderData, standing, reader_of, progress_of, data_of, record_of, passed_at}
+use Rattle.sequences.specs.Handed.{ReaderData, standing, reader_of, progress_of, located_of, record_of, passed_at}
 use Rattle.records.specs.Held.{held, behind}
 use Rattle.records.specs.Limits.{most_places, most_inners}
 use Rattle.formats.specs.Pieces.{pieces_from}
@@ -35,13 +35,13 @@ loop-piece-init c =
     subst (λ (q : ReaderData). begins q (progress_of c.new-noted.result)) (sym c.at_pieces-reader.ensures) (subst (begins (standing bytes pieces_from)) (sym c.new-noted.ensures) here)
 
 module _ (c : In-Some) where
-  handed : Given (reader_of c.loop-piece.reader) (data_of c.in-Some.piece)
+  handed : Given (reader_of c.loop-piece.reader) (located_of c.in-Some.piece)
   handed =
-      some_handed (reader_of c.loop-piece.reader) (data_of c.in-Some.piece)
-      (ap (λ (o : Option WitnessPiece). Ok (option_map data_of o)) (sym c.in-Some.is) ∙ c.in_ok-piece.ensures.handed)
+      some_handed (reader_of c.loop-piece.reader) (located_of c.in-Some.piece)
+      (ap (λ (o : Option LocatedPart). Ok (option_map located_of o)) (sym c.in-Some.is) ∙ c.in_ok-piece.ensures.handed)
 
-  passes : Ok tt ≡ body_by (shape_of (heading_of c.args.heading.now)) (progress_of c.loop-piece.noted) (data_of c.in-Some.piece)
-  passes = walking_passes (shape_of (heading_of c.args.heading.now)) c.args.bytes.now (reader_of c.loop-piece.reader) (progress_of c.loop-piece.noted) c.loop-piece.invariant.0 (data_of c.in-Some.piece) handed c.requires.passed
+  passes : Ok tt ≡ body_by (shape_of (heading_of c.args.heading.now)) (progress_of c.loop-piece.noted) (located_of c.in-Some.piece)
+  passes = walking_passes (shape_of (heading_of c.args.heading.now)) c.args.bytes.now (reader_of c.loop-piece.reader) (progress_of c.loop-piece.noted) c.loop-piece.invariant.0 (located_of c.in-Some.piece) handed c.requires.passed
 
 pub returns-in_err-piece : goal.returns-in_err-piece
 returns-in_err-piece c =
@@ -54,7 +54,7 @@ returns-in_err-found c =
     never _ (given_err _ _ _ c.in_err-found.ensures.answer ∙ sym (passes d))
 
 -- what was read
-read : (c : In_ok-found) → record_of c.in_ok-found.found ≡ record_by (shape_of (heading_of c.args.heading.now)) (data_of c.in-Some.piece)
+read : (c : In_ok-found) → record_of c.in_ok-found.found ≡ record_by (shape_of (heading_of c.args.heading.now)) (located_of c.in-Some.piece)
 read c = (given_ok _ _ _ c.in_ok-found.ensures.answer).1
 
 pub keep-requires : goal.keep-requires
@@ -62,7 +62,7 @@ keep-requires c =
     let d = (goal.at.keep-requires c).In-Some in
     let f = (goal.at.keep-requires c).In_ok-found in
     subst (λ (x : RecordData). Roomy x c.loop-piece.places c.loop-piece.inners) (sym (read f))
-    (roomy (shape_of (heading_of c.args.heading.now)) (progress_of c.loop-piece.noted) c.loop-piece.places c.loop-piece.inners (data_of c.in-Some.piece) (passes d) c.loop-piece.invariant.1.many c.loop-piece.invariant.2.many
+    (roomy (shape_of (heading_of c.args.heading.now)) (progress_of c.loop-piece.noted) c.loop-piece.places c.loop-piece.inners (located_of c.in-Some.piece) (passes d) c.loop-piece.invariant.1.many c.loop-piece.invariant.2.many
     (subst (λ (n : ℕ). most_places ≤ n) (sym c.loop-piece.invariant.1.room_is) c.requires.places_room)
     (subst (λ (n : ℕ). most_inners ≤ n) (sym c.loop-piece.invariant.2.room_is) c.requires.inners_room))
 
@@ -74,11 +74,11 @@ loop-piece-preserved c =
     let bytes = c.args.bytes.now in
     let r = reader_of c.loop-piece.reader in
     let s = progress_of c.loop-piece.noted in
-    let p = data_of c.in-Some.piece in
+    let p = located_of c.in-Some.piece in
     let w = c.loop-piece.invariant.0 in
     let e = read f in
     let after = c.in_ok-found.ensures.after in
-    let stands = c.next.ensures.stands in
+    let stands = c.next_located.ensures.stands in
     let xs = places_of shape (ahead (passed_at r)) in
     let ys = inners_of shape (ahead (passed_at r)) in
     let known = λ (q : ReaderData) (t : Progress).
@@ -103,11 +103,11 @@ loop-piece-preserved c =
 pub loop-piece-smaller : goal.loop-piece-smaller
 loop-piece-smaller c =
     let d = (goal.at.loop-piece-smaller c).In-Some in
-    comes_on (reader_of c.loop-piece.reader) (data_of c.in-Some.piece) (handed d) (reader_of c.next.new.self) c.next.ensures.stands
+    comes_on (reader_of c.loop-piece.reader) (located_of c.in-Some.piece) (handed d) (reader_of c.next_located.new.self) c.next_located.ensures.stands
 
 pub returns : goal.returns
 returns c =
-    let h = none_handed (reader_of c.loop-piece.reader) (ap (λ (o : Option WitnessPiece). Ok (option_map data_of o)) (sym c.in_default.is) ∙ c.in_ok-piece.ensures.handed) in
+    let h = none_handed (reader_of c.loop-piece.reader) (ap (λ (o : Option LocatedPart). Ok (option_map located_of o)) (sym c.in_default.is) ∙ c.in_ok-piece.ensures.handed) in
     let e = pieces_all c.loop-piece.reader.bytes.now c.loop-piece.reader.at h in
     let p = subst (λ (ps : List PieceData). Filled place_record_of (witness_at (shape_of (heading_of c.args.heading.now)) c.args.bytes.now).places (places_of (shape_of (heading_of c.args.heading.now)) ps) (progress_of c.loop-piece.noted).places c.args.places.now c.loop-piece.places) e c.loop-piece.invariant.1 in
     let i = subst (λ (ps : List PieceData). Filled inner_of (witness_at (shape_of (heading_of c.args.heading.now)) c.args.bytes.now).inners (inners_of (shape_of (heading_of c.args.heading.now)) ps) (progress_of c.loop-piece.noted).inners c.args.inners.now c.loop-piece.inners) e c.loop-piece.invariant.2 in

@@ -2,8 +2,8 @@ use Rattle.std.proofs.Common.{◌≡◌, Ok, Option, sym, refl, ap, ◌∙◌, s
 use Rattle.std.proofs.lemmas.Result.{err_from_is_err_and}
 use Rattle.std.specs.Option.{option_map}
 use Rattle.rows.proofs.Chains.{stops, goes, never}
-use Rattle.sequences.specs.declared.witness.WitnessPiece.{WitnessPiece}
-use Rattle.sequences.specs.Handed.{ReaderData, reader_of, progress_of, data_of}
+use Rattle.sequences.specs.declared.witness.LocatedPart.{LocatedPart}
+use Rattle.sequences.specs.Handed.{ReaderData, reader_of, progress_of, located_of}
 use Rattle.formats.specs.Witnesses.{begun, body_by, further_by, named_in, pieces_of, references_say}
 use Rattle.sequences.specs.TableGiven.{shape_in, transitions_in}
 use Rattle.sequences.proofs.HandedSteps.{Given, some_handed, none_handed, fault_handed, comes_on}
@@ -22,13 +22,13 @@ loop-piece-init c =
     )
 
 module _ (c : In-Some) where
-  handed : Given (reader_of c.loop-piece.reader) (data_of c.in-Some.piece)
+  handed : Given (reader_of c.loop-piece.reader) (located_of c.in-Some.piece)
   handed =
-      some_handed (reader_of c.loop-piece.reader) (data_of c.in-Some.piece)
-      (ap (λ (o : Option WitnessPiece). Ok (option_map data_of o)) (sym c.in-Some.is) ∙ c.in_ok-piece.ensures.handed)
+      some_handed (reader_of c.loop-piece.reader) (located_of c.in-Some.piece)
+      (ap (λ (o : Option LocatedPart). Ok (option_map located_of o)) (sym c.in-Some.is) ∙ c.in_ok-piece.ensures.handed)
 
-  passes : Ok tt ≡ body_by (shape_in c.args.table) c.loop-piece.invariant.0.0 (data_of c.in-Some.piece)
-  passes = walking_passes (shape_in c.args.table) c.args.bytes.now (reader_of c.loop-piece.reader) c.loop-piece.invariant.0.0 c.loop-piece.invariant.0.1 (data_of c.in-Some.piece) handed c.requires
+  passes : Ok tt ≡ body_by (shape_in c.args.table) c.loop-piece.invariant.0.0 (located_of c.in-Some.piece)
+  passes = walking_passes (shape_in c.args.table) c.args.bytes.now (reader_of c.loop-piece.reader) c.loop-piece.invariant.0.0 c.loop-piece.invariant.0.1 (located_of c.in-Some.piece) handed c.requires
 
 pub returns-in_err-piece : goal.returns-in_err-piece
 returns-in_err-piece c =
@@ -38,7 +38,7 @@ returns-in_err-piece c =
 pub reference_test-requires : goal.reference_test-requires
 reference_test-requires c =
     let d = (goal.at.reference_test-requires c).In-Some in
-    passed_reached (shape_in c.args.table) c.loop-piece.invariant.0.0 (reader_of c.loop-piece.reader) (data_of c.in-Some.piece) (handed d) (passes d)
+    passed_reached (shape_in c.args.table) c.loop-piece.invariant.0.0 (reader_of c.loop-piece.reader) (located_of c.in-Some.piece) (handed d) (passes d)
 
 pub returns-in_err-reference_test : goal.returns-in_err-reference_test
 returns-in_err-reference_test c =
@@ -47,7 +47,7 @@ returns-in_err-reference_test c =
     let n = named_in (transitions_in c.args.table) (progress_of c.args.noted.now) in
     rw (p.1, p.2)
     (stops _ _ _ c.in_err-reference_test.ensures
-    ∙ sym (next_references (shape_in c.args.table) c.args.bytes.now (reader_of c.loop-piece.reader) c.loop-piece.invariant.0.0 c.loop-piece.invariant.0.1 (data_of c.in-Some.piece) (handed d) n)
+    ∙ sym (next_references (shape_in c.args.table) c.args.bytes.now (reader_of c.loop-piece.reader) c.loop-piece.invariant.0.0 c.loop-piece.invariant.0.1 (located_of c.in-Some.piece) (handed d) n)
     ∙ c.loop-piece.invariant.1)
 
 pub loop-piece-preserved : goal.loop-piece-preserved
@@ -55,21 +55,21 @@ loop-piece-preserved c =
     let d = (goal.at.loop-piece-preserved c).In-Some in
     let n = named_in (transitions_in c.args.table) (progress_of c.args.noted.now) in
     let r = reader_of c.loop-piece.reader in
-    let w = walking_more (shape_in c.args.table) c.args.bytes.now r c.loop-piece.invariant.0.0 c.loop-piece.invariant.0.1 (data_of c.in-Some.piece) (handed d) (passes d) in (
-      (further_by c.loop-piece.invariant.0.0 (data_of c.in-Some.piece), subst (λ (q : ReaderData). Walking (shape_in c.args.table) c.args.bytes.now q (further_by c.loop-piece.invariant.0.0 (data_of c.in-Some.piece))) (sym c.next.ensures.stands) w),
-      ap (λ (q : ReaderData). references_say (shape_in c.args.table) n (ahead q)) c.next.ensures.stands
+    let w = walking_more (shape_in c.args.table) c.args.bytes.now r c.loop-piece.invariant.0.0 c.loop-piece.invariant.0.1 (located_of c.in-Some.piece) (handed d) (passes d) in (
+      (further_by c.loop-piece.invariant.0.0 (located_of c.in-Some.piece), subst (λ (q : ReaderData). Walking (shape_in c.args.table) c.args.bytes.now q (further_by c.loop-piece.invariant.0.0 (located_of c.in-Some.piece))) (sym c.next_located.ensures.stands) w),
+      ap (λ (q : ReaderData). references_say (shape_in c.args.table) n (ahead q)) c.next_located.ensures.stands
           ∙ goes _ _ _ c.in_ok-reference_test.ensures refl
-          ∙ sym (next_references (shape_in c.args.table) c.args.bytes.now r c.loop-piece.invariant.0.0 c.loop-piece.invariant.0.1 (data_of c.in-Some.piece) (handed d) n)
+          ∙ sym (next_references (shape_in c.args.table) c.args.bytes.now r c.loop-piece.invariant.0.0 c.loop-piece.invariant.0.1 (located_of c.in-Some.piece) (handed d) n)
           ∙ c.loop-piece.invariant.1,
     )
 
 pub loop-piece-smaller : goal.loop-piece-smaller
 loop-piece-smaller c =
     let d = (goal.at.loop-piece-smaller c).In-Some in
-    comes_on (reader_of c.loop-piece.reader) (data_of c.in-Some.piece) (handed d) (reader_of c.next.new.self) c.next.ensures.stands
+    comes_on (reader_of c.loop-piece.reader) (located_of c.in-Some.piece) (handed d) (reader_of c.next_located.new.self) c.next_located.ensures.stands
 
 pub returns : goal.returns
 returns c =
     let n = named_in (transitions_in c.args.table) (progress_of c.args.noted.now) in
-    let h = none_handed (reader_of c.loop-piece.reader) (ap (λ (o : Option WitnessPiece). Ok (option_map data_of o)) (sym c.in_default.is) ∙ c.in_ok-piece.ensures.handed) in
+    let h = none_handed (reader_of c.loop-piece.reader) (ap (λ (o : Option LocatedPart). Ok (option_map located_of o)) (sym c.in_default.is) ∙ c.in_ok-piece.ensures.handed) in
     ap (references_say (shape_in c.args.table) n) (sym (pieces_all c.loop-piece.reader.bytes.now c.loop-piece.reader.at h)) ∙ c.loop-piece.invariant.1

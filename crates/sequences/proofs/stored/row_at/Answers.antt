@@ -16,6 +16,7 @@ use Rattle.formats.specs.StoredRows.{row_at}
 use Rattle.formats.proofs.PieceTests.{given, given_fault}
 use Rattle.formats.proofs.RowItems.{row_written, row_too_large}
 use Rattle.sequences.specs.declared.piece.Piece.{Piece}
+use Rattle.sequences.specs.Handed.{plain_piece}
 use Rattle.sequences.specs.StoredMade.{row_from}
 use Rattle.sequences.proofs.stored.row_at.Goals as goal
 
@@ -31,4 +32,4 @@ row_made plain kind shape p at numbers (Err x) (Err f) e w h =
     rw h (given_fault _ _ _ (row_too_large kind shape p.offset p.rest.now at x.item _ l refl))
 
 pub returns : goal.returns
-returns g c = row_made g.T.Written.plain c.args.kind c.args.shape c.args.piece c.args.at c.numbers_at.result c.written.result c.map_err.result c.numbers_at.ensures c.written.ensures (search rules)
+returns g c = row_made g.T.Written.plain c.args.kind c.args.shape (plain_piece c.args.piece) c.args.at c.numbers_at.result c.written.result c.map_err.result c.numbers_at.ensures c.written.ensures (search rules)

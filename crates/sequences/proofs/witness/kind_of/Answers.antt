@@ -3,7 +3,7 @@ use Rattle.std.proofs.lemmas.Result.{err_from_is_err_and}
 use Rattle.std.proofs.lemmas.Bool.{eq-eqb, cond-true, cond-false}
 use Rattle.std.proofs.lemmas.Bool.Decides.{nat_tests}
 use Rattle.rows.proofs.Chains.{stops, goes, checked, failed}
-use Rattle.sequences.specs.Handed.{piece_of}
+use Rattle.sequences.specs.Handed.{plain_piece, piece_of}
 use Rattle.formats.specs.Witnesses.{PlacePart, InnerPart, is_place, kind_says}
 use Rattle.formats.proofs.PieceTests.{given, given_fault}
 use Rattle.sequences.proofs.witness.kind_of.Goals as goal
@@ -19,14 +19,14 @@ unfolding kind_says
 returns-in-1 c =
     let e = sym c.byte_at.ensures ∙ c.in-1.is in
     given _ _ _ (goes _ _ _ c.in_ok-reaches.ensures (checked _ _ (rw e refl)))
-    (sym (cond-true (is_place (piece_of c.args.piece)) (PlacePart (piece_of c.args.piece)) (InnerPart (piece_of c.args.piece)) (eq-eqb _ _ e)))
+    (sym (cond-true (is_place (piece_of (plain_piece c.args.piece))) (PlacePart (piece_of (plain_piece c.args.piece))) (InnerPart (piece_of (plain_piece c.args.piece))) (eq-eqb _ _ e)))
 
 pub returns-in-2 : goal.returns-in-2
 unfolding kind_says
 returns-in-2 c =
     let e = sym c.byte_at.ensures ∙ c.in-2.is in
     given _ _ _ (goes _ _ _ c.in_ok-reaches.ensures (checked _ _ (rw e refl)))
-    (sym (cond-false (is_place (piece_of c.args.piece)) (PlacePart (piece_of c.args.piece)) (InnerPart (piece_of c.args.piece)) (rw e refl)))
+    (sym (cond-false (is_place (piece_of (plain_piece c.args.piece))) (PlacePart (piece_of (plain_piece c.args.piece))) (InnerPart (piece_of (plain_piece c.args.piece))) (rw e refl)))
 
 pub returns-in_default : goal.returns-in_default
 unfolding kind_says

@@ -8,7 +8,7 @@ use Rattle.formats.specs.Witnesses.{part_of, kind_says}
 use Rattle.sequences.proofs.HandedSteps.{handed_none, passed_none, handed_fault, passed_fault, handed_some, passed_some}
 use Rattle.formats.proofs.PieceTests.{given_ok, given_err}
 use Rattle.sequences.proofs.RecordsSame.{same_piece, same_reader}
-use Rattle.sequences.proofs.witness.WitnessReader.next.Goals as goal
+use Rattle.sequences.proofs.witness.WitnessReader.next_located.Goals as goal
 
 pub returns-then-self : goal.returns-then-self
 returns-then-self c = record { handed = handed_none (reader_of c.args.self.now) c.if-self.true; stands = passed_none (reader_of c.args.self.now) c.if-self.true }
