@@ -3,7 +3,7 @@ use crate::building::*;
 use crate::reading::*;
 use rows::FaultKind::*;
 use rows::{Fault, FaultKind};
-use sequences::{WitnessPiece, WitnessReader};
+use sequences::{Piece, WitnessPiece, WitnessReader};
 use std::process::Abort;
 use std::test::Fail;
 
@@ -21,13 +21,25 @@ const PIECES: [(usize, usize, Kind); 4] = [
     (105, 32, Kind::Transition),
 ];
 
-// What the reader hands out next: the piece's offset, the length of its rest and its kind, if there is one.
-fn handed(reader: &mut WitnessReader<'_>) -> Result<Option<(usize, usize, Kind)>, Fault> {
-    let handed = reader.next()?.map(|handed| match handed {
+// A piece's offset, the length of its rest and its kind.
+fn told(piece: WitnessPiece<'_>) -> (usize, usize, Kind) {
+    match piece {
         WitnessPiece::Place(piece) => (piece.offset, piece.rest.len(), Kind::Place),
         WitnessPiece::Transition(piece) => (piece.offset, piece.rest.len(), Kind::Transition),
-    });
-    Ok(handed)
+    }
+}
+
+// What the reader hands out next, if there is a piece.
+fn handed(reader: &mut WitnessReader<'_>) -> Result<Option<(usize, usize, Kind)>, Fault> {
+    Ok(reader.next()?.map(|piece| told(piece)))
+}
+
+// A piece as it stands in a file in which the witness begins at an offset.
+fn moved<'a>(piece: Piece<'a>, base: usize) -> Piece<'a> {
+    Piece {
+        offset: piece.offset.saturating_add(base),
+        ..piece
+    }
 }
 
 // A byte changed, the number of bytes, how many pieces are handed out, and what comes then, again and again: only the
@@ -88,5 +100,32 @@ fn pieces_handed_out(rt: HostRuntime) -> Result<(), Fail> {
         change(&mut bytes, changes)?;
         expect_pieces(&rt, i, &bytes, count, fault_of(expected))?;
     }
+    Ok(())
+}
+
+// A piece is two plain fields: whoever makes one or moves one is asked for nothing.
+#[test]
+fn pieces_made_and_moved(rt: HostRuntime) -> Result<(), Fail> {
+    let rest = [1, 0, 11];
+    let piece = Piece {
+        offset: 7,
+        rest: &rest,
+    };
+    let far = moved(piece, usize::MAX);
+    let empty = Piece { rest: &[], ..piece };
+    assert_eq!(rt; told(WitnessPiece::Place(piece)), (7, 3, Kind::Place));
+    assert_eq!(rt;
+        told(WitnessPiece::Place(moved(piece, 100))),
+        (107, 3, Kind::Place)
+    );
+    assert_eq!(rt;
+        told(WitnessPiece::Place(far)),
+        (usize::MAX, 3, Kind::Place)
+    );
+    assert_eq!(rt;
+        told(WitnessPiece::Transition(empty)),
+        (7, 0, Kind::Transition)
+    );
+    assert_eq!(rt; moved(piece, 100).rest, rest.as_slice());
     Ok(())
 }
