@@ -1,5 +1,6 @@
 -- A line put together from what its words were read as.
 use Rattle.std.proofs.Common.{◌≡◌, ℕ, false, eqb, List, [], ◌∷◌, get_or, ℤ, IsErrAnd, ok_or, Some, None, Ok, Err, Option, Result, refl, ap, ◌∙◌, ⊎_elim, arith}
+use Rattle.std.specs.List.{AllByRecursion}
 use Rattle.std.specs.Str.{bytes_eq}
 use Rattle.std.proofs.lemmas.Slice.Eq.{bytes_eq-Decides}
 use Rattle.std.proofs.lemmas.Bool.{cond-true, cond-false, cases_Bool, eq-eqb, ne_eqb}
@@ -12,11 +13,17 @@ use Rattle.commands.specs.declared.parser.Command.{Command}
 use Rattle.commands.specs.declared.parser.Keyword.{Keyword}
 use Rattle.commands.specs.declared.stacks.Stack.{Stack}
 use Rattle.commands.specs.Lines.{set_sheet, ask_method, first_method, sheet_rows, sheet_line, ask_line, nothing, keyword_of, keyed, line_by, line_from, line_of}
+use Rattle.commands.specs.Names.{named}
 use Rattle.commands.specs.Read.{says_in}
 
 -- a word that is no name
 pub unlike : (w name : List ℕ) → (w ≡ name → ⊥) → bytes_eq w name ≡ false
 unlike w name other = ⊎_elim (λ t. absurd (other ((bytes_eq-Decides w name).0 t))) (λ f. f) (cases_Bool (bytes_eq w name))
+
+-- a word that no entry names
+pub named_none : {X : Type 0} (table : List (List ℕ × X)) (w : List ℕ) → AllByRecursion (λ e. w ≡ e.0 → ⊥) table → named table w ≡ None
+named_none [] w h = refl
+named_none (e ∷ table) w h = cond-false (bytes_eq w e.0) _ _ (unlike w e.0 h.0) ∙ named_none table w h.1
 
 -- an error that is handed on
 pub handed_on : (r : Result Command LineError) (e : LineError) → IsErrAnd r (λ y. y ≡ e) → says_in r ≡ Err e

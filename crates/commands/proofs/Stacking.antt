@@ -91,6 +91,17 @@ rejoined : (w : List ℕ) → slashed (pieces slash w) ≡ w
 rejoined [] = refl
 rejoined (b ∷ bs) = let p = first_piece slash bs in rejoined_more b bs p.0 p.1.0 p.1.1 (ap slashed (sym p.1.1) ∙ rejoined bs)
 
+-- the last name of a word is a base, or the word writes no stack
+pub base_alone : (w : List ℕ) → stacked 0 (pieces slash w) ≡ of_base (base_of w)
+base_alone w =
+    choice_cases w (codes "multipliers") (codes "look-up") Multipliers LookUp (λ o. stacked 0 (pieces slash w) ≡ of_base o)
+    (λ e. ap (λ l. stacked 0 (pieces slash l)) e) (λ e. ap (λ l. stacked 0 (pieces slash l)) e) (λ none. alone none (pieces slash w) (rejoined w))
+  where
+    alone : base_of w ≡ None → (ps : List (List ℕ)) → slashed ps ≡ w → stacked 0 ps ≡ None
+    alone none [] e = refl
+    alone none (p ∷ []) e = ap (λ l. of_base (base_of l)) e ∙ ap of_base none
+    alone none (p ∷ q ∷ ps) e = refl
+
 -- names that write a stack are the stack's
 none_some : {X : Type 0} {x : X} → None ≡ Some x → ⊥
 none_some h = let z : ◌≡◌ {A = ℕ} 0 1 = cc in omega arith

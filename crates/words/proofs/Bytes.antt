@@ -26,7 +26,7 @@ hex_behind [] behind h = h
 hex_behind (a ∷ cs) behind h = hex_behind cs behind ((and_parts _ _ h).1)
 
 -- a word by cases
-hex_dash : (w : List ℕ) → w ≡ codes "-" → hex_bytes w ≡ Ok []
+pub hex_dash : (w : List ℕ) → w ≡ codes "-" → hex_bytes w ≡ Ok []
 unfolding hex_bytes
 hex_dash w e = cond-true (bytes_eq w (codes "-")) _ _ ((bytes_eq-Decides w (codes "-")).1 e)
 
@@ -40,13 +40,13 @@ module _ (w : List ℕ) (other : w ≡ codes "-" → ⊥) where
       ⊎_elim (λ t. absurd (other ((bytes_eq-Decides w (codes "-")).0 t))) (λ f. cond-false (bytes_eq w (codes "-")) _ _ f)
       (cases_Bool (bytes_eq w (codes "-")))
 
-  hex_not : all_hex w ≡ false → hex_bytes w ≡ Err NoHexDigit
+  pub hex_not : all_hex w ≡ false → hex_bytes w ≡ Err NoHexDigit
   hex_not e = digits_only_lem ∙ cond-false (all_hex w) _ _ e
 
-  hex_odd : all_hex w ≡ true → (length w % 2 ≡ 0 → ⊥) → hex_bytes w ≡ Err OddHexDigits
+  pub hex_odd : all_hex w ≡ true → (length w % 2 ≡ 0 → ⊥) → hex_bytes w ≡ Err OddHexDigits
   hex_odd e odd = digits_only_lem ∙ cond-true (all_hex w) _ _ e ∙ cond-false (eqb (length w % 2) 0) _ _ (ne_eqb _ 0 odd)
 
-  hex_pairs : all_hex w ≡ true → length w % 2 ≡ 0 → hex_bytes w ≡ Ok (pairs_of w)
+  pub hex_pairs : all_hex w ≡ true → length w % 2 ≡ 0 → hex_bytes w ≡ Ok (pairs_of w)
   hex_pairs e even = digits_only_lem ∙ cond-true (all_hex w) _ _ e ∙ cond-true (eqb (length w % 2) 0) _ _ (eq-eqb _ 0 even)
 
   -- the check of its digits is the check of the word
@@ -139,6 +139,16 @@ only w bytes h =
 
 pub hex_reads : HexReads
 hex_reads = record { back = back; only = only }
+
+-- one check, with another value where it passes
+pub rechecked_ok : {X Y : Type 0} (r : Result (List ℕ) LineError) (x : X) (y : Y) → Ok x ≡ checked r x → checked r y ≡ Ok y
+rechecked_ok (Ok bs) x y h = refl
+rechecked_ok (Err e) x y h = let z : ◌≡◌ {A = ℕ} 0 1 = cc in absurd (omega arith)
+
+-- and the same error where it does not
+pub rechecked_stops : {X Y : Type 0} (r : Result (List ℕ) LineError) (x : X) (y : Y) (e : LineError) → Err e ≡ checked r x → checked r y ≡ Err e
+rechecked_stops (Ok bs) x y e h = let z : ◌≡◌ {A = ℕ} 0 1 = cc in absurd (omega arith)
+rechecked_stops (Err f) x y e h = cc
 
 -- why the check fails is why nothing is read
 pub rechecked_err : {X : Type 0} (r : Result (List ℕ) LineError) (x : X) (s : Result X LineError) (e : LineError) → checked r (tt {0}) ≡ Err e → s ≡ Err e → s ≡ checked r x

@@ -1,15 +1,11 @@
 -- Texts cut into pieces and lines cut into words, put together from their parts.
-use Rattle.std.proofs.Common.{◌≡◌, ℕ, ◌<◌, ◌≤◌, Bool, true, false, List, [], ◌∷◌, ◌++◌, length, get_or, take, drop, IfSome, MatchOption, unwrap_or, Some, None, Option, sym, refl, ap, ◌∙◌, subst, ⊎_elim, append-nil, add-zero, arith}
-use Rattle.std.specs.Char.{IsScalar, char_set_contains}
-use Rattle.std.specs.List.{AllByRecursion}
-use Rattle.std.specs.Str.{NoCharPasses}
-use Rattle.std.specs.Str.Pattern.{FindsBy, FindsPrefixBy, MatchBeginsAt, CutsPrefixes, IsTrimStartMatches}
-use Rattle.std.proofs.lemmas.List.{take-append-drop, length-append, length-take-le, length-drop, get_or-take, get_or-drop, nil_from_length}
+use Rattle.std.proofs.Common.{◌≡◌, ℕ, ◌<◌, ◌≤◌, Bool, true, false, not, List, [], ◌∷◌, ◌++◌, length, get_or, take, drop, unwrap_or, Some, None, Option, sym, refl, ap, ◌∙◌, subst, ⊎_elim, inl, inr, append-nil, add-zero, arith}
+use Rattle.std.specs.List.{AllByRecursion, position, position_or_len}
+use Rattle.std.proofs.lemmas.List.{take-append-drop, length-take-le, get_or-take, get_or-drop, length-drop, drop_all, nil_from_length}
+use Rattle.std.proofs.lemmas.List.Quantifiers.{position-Some}
+use Rattle.std.proofs.lemmas.List.Sums.{fails_before_first}
 use Rattle.std.proofs.ByRecursion.{All-from_get_or}
-use Rattle.std.proofs.lemmas.Str.{NoCharPasses-byte, encode_ascii, len_utf8_bounds}
-use Rattle.std.proofs.lemmas.Str.Pattern.{drop_at_char}
-use Rattle.std.proofs.lemmas.Bool.{cond-true, cond-false, cond_both, both_ways, cases_Bool, cases_lt}
-use Rattle.std.proofs.lemmas.Bool.Decides.{nat_tests}
+use Rattle.std.proofs.lemmas.Bool.{cond-true, cond-false, cond_both, both_ways, not-true, not-false, cases_lt, lt-ltb}
 use Rattle.words.specs.Words.{separator, Front, onto, pieces, filled, words_of, Word, spaced, WordsRead}
 
 module _ (cut : ℕ → Bool) where
@@ -42,110 +38,76 @@ words_more w (z ∷ zs) h e =
     ∙ filled_some w _ h.0
     ∙ ap (λ ps. w ∷ filled ps) (sym (cond-true (separator z) _ _ (e (omega arith))))
 
--- a text without separators, character by character or byte by byte
-separator_ascii : (b : ℕ) → separator b ≡ true → b < 128
-separator_ascii b h = grind (arith, nat_tests)
+-- the place of the first byte that ends a front, or the end
+module _ (blank : Bool) (ends : ℕ → Bool) (unlike : (b : ℕ) → ends b ≡ true → separator b ≡ not blank) (alike : (b : ℕ) → ends b ≡ false → separator b ≡ blank) (bs : List ℕ) where
+  front_at : (r : Option ℕ) → r ≡ position ends bs → Front blank bs (unwrap_or r (length bs))
+  front_at None e = record { within = omega arith; all = λ k l. alike _ (fails_before_first ends bs k 0 (omega (arith, all, l))); stops = λ l. absurd (omega arith) }
+    where
+      -- the search ends behind the last byte
+      all : length bs ≤ position_or_len ends bs
+      all =
+          elim (cases_lt (position_or_len ends bs) (length bs)) [
+            | inl l ↦ let z : ◌≡◌ {A = Option ℕ} None (Some (position_or_len ends bs)) = e ∙ cond-true _ _ _ (lt-ltb _ _ l) in absurd (cc)
+            | inr l ↦ l
+          ]
+  front_at (Some i) e = let p = position-Some ends bs i 0 (sym e) in record { within = omega (arith, p.0); all = λ k l. alike _ (p.2 k l); stops = λ _. unlike _ p.1 }
 
-solid : (bs : List ℕ) → NoCharPasses separator bs → (i : ℕ) → i < length bs → separator (get_or bs i 0) ≡ false
-solid bs h i l = ⊎_elim (λ t. NoCharPasses-byte separator bs i h l (separator_ascii _ t)) (λ f. f) (cases_Bool (separator (get_or bs i 0)))
+-- the separators in front
+pub blanks_found : (bs : List ℕ) (r : Option ℕ) → r ≡ position (λ b. not (separator b)) bs → Front true bs (unwrap_or r (length bs))
+blanks_found = front_at true (λ b. not (separator b)) (λ b h. not-true _ h) (λ b h. not-false _ h)
 
--- what the searches of `str` say at the characters that separate words
-abbrev separators : List ℕ
-separators = 32 ∷ 9 ∷ 13 ∷ []
-
-separators_lem : (c : ℕ) → char_set_contains separators c ≡ separator c
-separators_lem c = grind (arith, nat_tests)
-
-abbrev pub Cuts : List ℕ → Option ℕ → Type 0
-Cuts s r = (k : ℕ → Bool) → ((c : ℕ) → char_set_contains separators c ≡ k c) → FindsPrefixBy k s r
-
-abbrev pub Finds : List ℕ → Option (ℕ × ℕ) → Type 0
-Finds s r = (k : ℕ → Bool) → ((c : ℕ) → char_set_contains separators c ≡ k c) → FindsBy k s r
-
--- separators that are cut off the front make no word
-cut_off : (ns line text : List ℕ) → CutsPrefixes Cuts line ns text → words_of line ≡ words_of text
-cut_off [] line text h = ap words_of (sym h)
-cut_off (n ∷ ns) line text h =
-    let p = h.2 separator separators_lem in
-    let first : h.0 ≡ p.0 ∷ drop n h.0 = drop_at_char p.0 h.0 0 n p.2 (separator_ascii p.0 p.1) in
-    cut_off ns line h.0 h.1 ∙ ap words_of first ∙ words_blank (p.0 ∷ []) (drop n h.0) (p.1, tt) ∙ ap words_of (sym h.3)
-
-ascii_scalar : (b : ℕ) → b < 128 → IsScalar b
-ascii_scalar b h = grind (arith, nat_tests)
-
--- and then none stands in front
-fully : (text : List ℕ) (o : Option ℕ) → Cuts text o → IfSome o (λ n. n ≡ 0) → 0 < length text → separator (get_or text 0 0) ≡ false
-fully [] o h z some = absurd (omega arith)
-fully (b ∷ bs) None h z some =
-    ⊎_elim (λ t. h separator separators_lem b bs (ascii_scalar b (separator_ascii b t)) (sym (ap (λ l. l ++ bs) (encode_ascii b (separator_ascii b t))))) (λ f. f)
-    (cases_Bool (separator b))
-fully (b ∷ bs) (Some n) h z some =
-    let p = h separator separators_lem in
-    absurd (omega (arith, z, p.2.ends, (len_utf8_bounds p.0).0))
-
--- what stands before the first separator that was found, or before the end
-pub front_found : (text : List ℕ) (o : Option ℕ) → MatchOption o (Finds text None) (MatchBeginsAt Finds text) → Front false text (unwrap_or o (length text))
-front_found text None h =
-    let dark = solid text (h separator separators_lem) in
-    record { within = omega arith; all = λ k l. dark k l; stops = λ l. absurd (omega arith) }
-front_found text (Some i) h =
-    let p = h.1 separator separators_lem in
-    let at : drop i text ≡ p.1.0 ∷ drop h.0 text = drop_at_char p.1.0 text i h.0 p.1.2 (separator_ascii p.1.0 p.1.1) in
-    let some : i < length text = omega (arith, ap length at, length-drop i text) in
-    let long = length-take-le i text (omega arith) in
-    record {
-      within = omega arith;
-      all = λ k l. ap separator (sym (get_or-take i text k 0 l)) ∙ solid (take i text) p.0 k (omega arith);
-      stops = λ _. ap separator (ap (λ n. get_or text n 0) (sym (add-zero i)) ∙ sym (get_or-drop i text 0 0) ∙ ap (λ l. get_or l 0 0) at) ∙ p.1.1;
-    }
+-- what stands before the first separator
+pub word_found : (bs : List ℕ) (r : Option ℕ) → r ≡ position separator bs → Front false bs (unwrap_or r (length bs))
+word_found = front_at false separator (λ b h. h) (λ b h. h)
 
 front_all : {t : Bool} {bs : List ℕ} {n : ℕ} → Front t bs n → AllByRecursion (λ x. separator x ≡ t) (take n bs)
 front_all {t} {bs} {n} f =
     let long = length-take-le n bs f.within in
     All-from_get_or (λ x. separator x ≡ t) (take n bs) 0 (λ i h. ap separator (get_or-take n bs i 0 (omega arith)) ∙ f.all i (omega arith))
 
--- a line without the separators in front, cut at the next one
-pub record Cut (line text word rest : List ℕ) (n : ℕ) : Type 0 where
-  pub bound : length text ≤ length line
-  pub trim : IsTrimStartMatches Cuts line text
+-- a line is separators, a word and what is left
+pub record Cut (line text word rest : List ℕ) (b n : ℕ) : Type 0 where
+  pub gap : Front true line b
+  pub after : text ≡ drop b line
   pub solid : Front false text n
   pub front : word ≡ take n text
   pub back : rest ≡ drop n text
 
-module _ {line text word rest : List ℕ} {n : ℕ} (cut : Cut line text word rest n) where
+module _ {line text word rest : List ℕ} {b n : ℕ} (cut : Cut line text word rest b n) where
   after_gap : words_of line ≡ words_of text
-  after_gap = cut_off cut.trim.0.0 line text cut.trim.0.1
-
-  whole : text ≡ word ++ rest
-  whole = sym (take-append-drop n text) ∙ (λ i. sym cut.front i ++ sym cut.back i)
-
-  gap : 0 < length rest → separator (get_or rest 0 0) ≡ true
-  gap some =
-      let left = ap length cut.back ∙ length-drop n text in
-      ap separator (ap (λ l. get_or l 0 0) cut.back ∙ get_or-drop n text 0 0 ∙ ap (λ i. get_or text i 0) (add-zero n)) ∙ cut.solid.stops (omega arith)
+  after_gap = ap words_of (sym (take-append-drop b line)) ∙ words_blank (take b line) (drop b line) (front_all cut.gap) ∙ ap words_of (sym cut.after)
 
   -- the first word and the others
   pub first_word : 0 < length word → (words_of line ≡ word ∷ words_of rest) × (length rest < length line)
   first_word some =
-      let dark = subst (AllByRecursion (λ b. separator b ≡ false)) (sym cut.front) (front_all cut.solid) in
-      (after_gap ∙ ap words_of whole ∙ words_more word rest (some, dark) gap, omega (arith, cut.bound, ap length whole, length-append word rest))
+      let size = ap length cut.front ∙ length-take-le n text cut.solid.within in
+      let left = ap length cut.back ∙ length-drop n text in
+      let next : get_or rest 0 0 ≡ get_or text n 0 = ap (λ l. get_or l 0 0) cut.back ∙ get_or-drop n text 0 0 ∙ ap (λ i. get_or text i 0) (add-zero n) in
+      let whole : text ≡ word ++ rest = sym (take-append-drop n text) ∙ (λ i. sym cut.front i ++ sym cut.back i) in
+      let solid : AllByRecursion (λ x. separator x ≡ false) word = subst (AllByRecursion (λ x. separator x ≡ false)) (sym cut.front) (front_all cut.solid) in (
+        after_gap ∙ ap words_of whole ∙ words_more word rest (some, solid) (λ h. ap separator next ∙ cut.solid.stops (omega arith)),
+        omega (arith, ap length cut.after, length-drop b line, cut.solid.within),
+      )
 
   -- no word is left
   pub no_word : length word ≡ 0 → (words_of line ≡ []) × (words_of rest ≡ [])
   unfolding words_of
-  no_word none = (after_gap ∙ ap words_of (same ∙ empty), ap words_of empty)
+  no_word none = (after_gap ∙ ap words_of empty, ap words_of (cut.back ∙ ap (drop n) empty ∙ drop_all n [] (omega arith)))
     where
-      same : text ≡ rest
-      same = whole ∙ ap (λ l. l ++ rest) (nil_from_length word none)
+      size : n ≡ 0
+      size = omega (arith, ap length cut.front ∙ length-take-le n text cut.solid.within)
 
-      empty : rest ≡ []
-      empty = nil_from_length rest (⊎_elim (λ h. absurd (unlike h)) (λ h. omega arith) (cases_lt 0 (length rest)))
-        where
-          unlike : 0 < length rest → ⊥
-          unlike some =
-              both_ways (separator (get_or rest 0 0))
-              (ap (λ l. separator (get_or l 0 0)) (sym same) ∙ fully text cut.trim.1.0 cut.trim.1.1 cut.trim.1.2 (subst (λ l. 0 < length l) (sym same) some))
-              (gap some)
+      first : get_or text 0 0 ≡ get_or line b 0
+      first = ap (λ l. get_or l 0 0) cut.after ∙ get_or-drop b line 0 0 ∙ ap (λ i. get_or line i 0) (add-zero b)
+
+      unlike : 0 < length text → ⊥
+      unlike some =
+          both_ways (separator (get_or text 0 0))
+          (ap separator first ∙ cut.gap.stops (omega (arith, ap length cut.after, length-drop b line)))
+          (ap (λ i. separator (get_or text i 0)) (sym size) ∙ cut.solid.stops (omega (arith, size)))
+
+      empty : text ≡ []
+      empty = nil_from_length text (⊎_elim (λ h. absurd (unlike h)) (λ h. omega arith) (cases_lt 0 (length text)))
 
 -- words that are written are read again
 back : (ws : List (List ℕ)) → AllByRecursion Word ws → words_of (spaced ws) ≡ ws

@@ -71,7 +71,7 @@ natural_is : (ds : List ℕ) → is_some (natural_of ds) ≡ is_numeral ds
 natural_is ds = elim (is_numeral ds) as (λ t. is_some (cond t (Some (value_after 0 ds)) None) ≡ t) [ true ↦ refl | false ↦ refl ]
 
 -- with a minus in front
-number_minus : (bs ds : List ℕ) → bs ≡ 45 ∷ ds → is_numeral ds ≡ is_some (whole_of bs)
+pub number_minus : (bs ds : List ℕ) → bs ≡ 45 ∷ ds → is_numeral ds ≡ is_some (whole_of bs)
 number_minus bs ds e = sym (ap (λ l. is_some (whole_of l)) e ∙ same_minus (natural_of ds) ∙ natural_is ds)
   where
     same_minus : (o : Option ℕ) → is_some (minus o) ≡ is_some o
@@ -79,7 +79,7 @@ number_minus bs ds e = sym (ap (λ l. is_some (whole_of l)) e ∙ same_minus (na
     same_minus (Some n) = refl
 
 -- with none
-number_plain : (bs : List ℕ) → ((rest : List ℕ) → bs ≡ 45 ∷ rest → ⊥) → is_numeral bs ≡ is_some (whole_of bs)
+pub number_plain : (bs : List ℕ) → ((rest : List ℕ) → bs ≡ 45 ∷ rest → ⊥) → is_numeral bs ≡ is_some (whole_of bs)
 number_plain [] h = refl
 number_plain (c ∷ cs) h =
     sym (ap is_some (cond-false (eqb c 45) _ _ (ne_eqb c 45 (λ e. h cs (ap (λ x. x ∷ cs) e)))) ∙ same_plus (natural_of (c ∷ cs)) ∙ natural_is (c ∷ cs))
