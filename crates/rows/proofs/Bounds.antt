@@ -1,5 +1,5 @@
 -- How large products and sums of products become, over any number of columns and any limits, and that they fit 64 bits.
-use Rattle.std.proofs.Common.{◌≡◌, ℕ, suc, ◌+◌, ◌*◌, ◌^◌, ◌<◌, ◌≤◌, true, List, get_or, ℤ, pos, negsuc, ◌+ℤ◌, ◌*ℤ◌, neg_ℤ, ◌≤ℤ◌, sym, ap, ◌∙◌, subst, add-one, arith, w64, SFits, to_z, of_z}
+use Rattle.std.proofs.Common.{◌≡◌, ℕ, zero, suc, ◌+◌, ◌*◌, ◌^◌, ◌<◌, ◌≤◌, true, List, get_or, ℤ, pos, negsuc, ◌+ℤ◌, ◌*ℤ◌, neg_ℤ, ◌≤ℤ◌, sym, ap, ◌∙◌, subst, add-one, arith, w64, SFits, to_z, of_z}
 use lib.Signed.{le_z}
 use Rattle.std.proofs.lemmas.Nat.{mul-le}
 use Rattle.std.proofs.lemmas.Int.{ints, to_z-of_z}
@@ -45,7 +45,7 @@ pub record Accumulated (bits : ℕ) (x y : ℤ) : Type 0 where
   pub added : SFits w64 (to_z w64 bits +ℤ to_z w64 (of_z w64 (to_z w64 (of_z w64 x) *ℤ to_z w64 (of_z w64 y))))
   pub is : to_z w64 (of_z w64 (to_z w64 bits +ℤ to_z w64 (of_z w64 (to_z w64 (of_z w64 x) *ℤ to_z w64 (of_z w64 y))))) ≡ to_z w64 bits +ℤ x *ℤ y
 
-accumulated : (bits : ℕ) (x y : ℤ) → SFits w64 x → SFits w64 y → SFits w64 (x *ℤ y) → SFits w64 (to_z w64 bits +ℤ x *ℤ y) → Accumulated bits x y
+pub accumulated : (bits : ℕ) (x y : ℤ) → SFits w64 x → SFits w64 y → SFits w64 (x *ℤ y) → SFits w64 (to_z w64 bits +ℤ x *ℤ y) → Accumulated bits x y
 accumulated bits x y fx fy fp fs =
     let p : to_z w64 (of_z w64 x) *ℤ to_z w64 (of_z w64 y) ≡ x *ℤ y = rw (to_z-of_z w64 x fx, to_z-of_z w64 y fy) in
     let s : to_z w64 bits +ℤ to_z w64 (of_z w64 (to_z w64 (of_z w64 x) *ℤ to_z w64 (of_z w64 y))) ≡ to_z w64 bits +ℤ x *ℤ y = rw (p, to_z-of_z w64 (x *ℤ y) fp) in
@@ -88,6 +88,14 @@ dot_turn n a b bits cs vs k x y h ca vb l ex ey fx fy s =
         small = subst (Bounded ((k + 1) * (a * b))) (sym t.is) (sum_bounded k (a * b) _ _ s.small p);
       };
     }
+
+-- the whole sum
+pub dot_bounded : (n a b : ℕ) (cs vs : List ℤ) → ((i : ℕ) → i < n → within a (get_or cs i (pos 0)) ≡ true) → ((i : ℕ) → i < n → within b (get_or vs i (pos 0)) ≡ true) → Bounded (n * (a * b)) (dot_to n cs vs)
+dot_bounded zero a b cs vs ca vb = record { low = omega (arith, ints); high = omega (arith, ints) }
+dot_bounded (suc k) a b cs vs ca vb =
+    let h = dot_bounded k a b cs vs (λ i l. ca i (omega arith)) (λ i l. vb i (omega arith)) in
+    let p = product_bounded a b (get_or cs k (pos 0)) (get_or vs k (pos 0)) (bounded a _ (ca k (omega arith))) (bounded b _ (vb k (omega arith))) in
+    rw (sym (add-one k)) (sum_bounded k (a * b) _ _ h p)
 
 -- a bounded number as it is passed to a function, to its bits and back
 pub passed_bounded : (most more : ℕ) (z : ℤ) → most ≤ more → more < 2 ^ 63 → Bounded most z → (neg_ℤ (pos more) ≤ℤ to_z w64 (of_z w64 z)) × (to_z w64 (of_z w64 z) ≤ℤ pos more)

@@ -1,9 +1,9 @@
-use Rattle.std.proofs.Common.{◌≡◌, ◌<◌, true, length, get_or, ℤ, pos, neg_ℤ, subst, arith, lit<, rules}
+use Rattle.std.proofs.Common.{◌≡◌, ◌<◌, length, pos, neg_ℤ, subst, lit<, rules}
 use Rattle.rows.specs.declared.limits.Limit.TheVariants.{WrittenNumber}
-use Rattle.rows.specs.Limits.{columns, magnitude_of, within}
+use Rattle.rows.specs.Limits.{columns, magnitude_of}
 use Rattle.rows.proofs.ArrayMaps.{asked_each, mapped}
 use Rattle.rows.proofs.Bounds.{bounded}
-use Rattle.rows.proofs.Items.{item_column}
+use Rattle.rows.proofs.Items.{column_within}
 use Rattle.rows.proofs.written.WrittenRow.negated.Goals as goal
 
 pub map-requires : goal.map-requires
@@ -16,8 +16,7 @@ map-requires c =
         (
           lit< tt,
           asked_each _ _ row.coefficients _ (pos 0) (λ q k l.
-              let m : k < columns = subst (λ j. k < j) n l in
-              let b = bounded (magnitude_of WrittenNumber) (get_or row.coefficients k (pos 0)) (subst (λ (z : ℤ). within (magnitude_of WrittenNumber) z ≡ true) (item_column row k m) (c.args.self.now.held k (omega (arith, m)))) in
+              let b = bounded (magnitude_of WrittenNumber) _ (column_within (magnitude_of WrittenNumber) row c.args.self.now.held k (subst (λ j. k < j) n l)) in
               (b.low, b.high)),
         ),
       ),
