@@ -3,6 +3,7 @@ use Rattle.std.proofs.Common.{◌≡◌, ℕ, suc, ◌+◌, ◌-◌, ◌<◌, �
 use lib.Seq.{take-set-lt}
 use Rattle.std.proofs.lemmas.List.{at_drop_all, take_min}
 use Rattle.std.proofs.lemmas.Bool.{lt-ltb, cond-true, cases_Bool}
+use Rattle.std.specs.List.{find}
 use Rattle.std.specs.Option.{option_map}
 use Rattle.records.specs.Lists.{place_of, at, first, first_with}
 
@@ -46,3 +47,8 @@ first_plain plain num mun n (x ∷ xs) h =
       | inl t ↦ let s : eqb (mun (plain x)) n ≡ true = ap (λ k. eqb k n) (h x) ∙ t in rw (t, s)
       | inr f ↦ let s : eqb (mun (plain x)) n ≡ false = ap (λ k. eqb k n) (h x) ∙ f in rw (f, s) (first_plain plain num mun n xs h)
     ]
+
+-- the first with a number, as the library's search finds it
+pub found_first : {X : Type 0} (num : X → ℕ) (n : ℕ) (xs : List X) → first_with num n xs ≡ find (λ x. eqb (num x) n) xs
+found_first num n [] = refl
+found_first num n (x ∷ xs) = ap (cond (eqb (num x) n) (Some x)) (found_first num n xs)
