@@ -1,6 +1,7 @@
 // Steps, plans and obligations on plain values: what a case works out of its table and its witness.
 #![tactic(auto)]
 
+pub mod choices;
 pub mod facts;
 pub mod goals;
 pub mod listing;

@@ -1,8 +1,8 @@
 // A step and a plan: the values after a transition, the transition that a plan takes, and the choices that it makes.
 ghost use Rattle.std.specs.Prelude.{◌≡◌, ℕ, map, pos, slice_index_or};
 ghost use Rattle.records.specs.Bounded.{plain_list};
-ghost use Rattle.records.specs.Records.{row_of, expression_of, transition_of, place_record_of, inner_of};
-ghost use Rattle.semantics.specs.Plans.{meets, planned_at, choices_of};
+ghost use Rattle.records.specs.Records.{row_of, expression_of, entry_of, transition_of, place_record_of, inner_of};
+ghost use Rattle.semantics.specs.Plans.{meets, planned, planned_at, choices_of};
 ghost use Rattle.semantics.specs.Runs.{value_at, updated as updated_values};
 ghost use Rattle.semantics.specs.Vectors.{padded};
 ghost use Rattle.std.specs.List.{find};
@@ -53,9 +53,17 @@ fn first_met<'a>(entries: &'a [PlanEntry], point: &Point) -> Option<&'a PlanEntr
     entries.iter().find(|entry| meets(point, &entry.test))
 }
 
+// The transition of the first entry whose test the point meets, else the one given.
+// Apart from `planned_at`, which hands on the parts of a place: so a wrong part is a goal of its own.
+fn taken_from(entries: &[PlanEntry], last: u16, point: &Point) -> u16
+    ensures { result ≡ planned point.now.values (map entry_of entries.now) last }
+{
+    first_met(entries, point).map_or(last, |entry| entry.transition)
+}
+
 // The transition of the first entry of a plan whose test the state meets, else of the last entry.
 pub fn planned_at(place: &Place, state: &State) -> u16
     ensures { result ≡ planned_at (place_record_of place.now) state.now.values }
 {
-    first_met(place.tested.as_slice(), &at_rest(state)).map_or(place.last, |entry| entry.transition)
+    taken_from(place.tested.as_slice(), place.last, &at_rest(state))
 }

@@ -20,11 +20,19 @@ pub fn at_rest(state: &State) -> Point
     ensures { result.values ≡ at_rest state.now.values }
 {
     let no_choices = Values::new([0; MOST_CHOICES]).unwrap();
-    point_of(state, &no_choices)
+    joined(state, &no_choices)
 }
 
 // The point of a state and of choices.
+// It hands both on: so a wrong part is a goal of its own, apart from how the two are laid into one array.
 pub fn point_of(state: &State, choices: &Choices) -> Point
+    ensures { result.values ≡ point_of state.now.values choices.now.values }
+{
+    joined(state, choices)
+}
+
+// The values and behind them the choices, as one point.
+fn joined(state: &State, choices: &Choices) -> Point
     ensures { result.values ≡ point_of state.now.values choices.now.values }
 {
     let mut all = [0; COLUMNS];

@@ -5,8 +5,8 @@ use Rattle.rows.specs.Limits.{magnitude_of}
 use Rattle.rows.specs.Points.{WithinFirst}
 use Rattle.records.specs.Limits.{most_values, most_choices}
 use Rattle.obligations.proofs.Joining.{overwritten, joined_within, made, made_of}
-use Rattle.obligations.proofs.state.point_of.Goals as goal
-use Rattle.obligations.proofs.state.point_of.Goals.{After-copy_from_slice-2}
+use Rattle.obligations.proofs.state.joined.Goals as goal
+use Rattle.obligations.proofs.state.joined.Goals.{After-copy_from_slice-2}
 
 -- what the memory holds after both copies
 both : (c : After-copy_from_slice-2) → put_mid most_values most_choices (c.copy_from_slice.new.self ++ pos 0 ∷ pos 0 ∷ []) c.copy_from_slice-2.new.self ≡ c.args.state.now.values ++ c.args.choices.now.values
