@@ -18,13 +18,13 @@ use Rattle.obligations.proofs.ShortLists.{at_plain}
 
 module _ {B : Type 0} where
   -- a place in one list, and in another behind it
-  at_front_lem : (k : ℕ) (xs ys : List B) (o : B) → at k xs ≡ Some o → at k (xs ++ ys) ≡ Some o
+  pub at_front_lem : (k : ℕ) (xs ys : List B) (o : B) → at k xs ≡ Some o → at k (xs ++ ys) ≡ Some o
   at_front_lem zero (x ∷ xs) ys o e = e
   at_front_lem (suc k) (x ∷ xs) ys o e = at_front_lem k xs ys o e
   at_front_lem zero [] ys o e = cc
   at_front_lem (suc k) [] ys o e = cc
 
-  at_behind : (k m : ℕ) (xs ys : List B) → k ≡ length xs + m → at k (xs ++ ys) ≡ at m ys
+  pub at_behind : (k m : ℕ) (xs ys : List B) → k ≡ length xs + m → at k (xs ++ ys) ≡ at m ys
   at_behind k m [] ys e = let z : k ≡ m = omega arith in ap (λ (j : ℕ). at j ys) z
   at_behind zero m (x ∷ xs) ys e = absurd (omega arith)
   at_behind (suc k) m (x ∷ xs) ys e = at_behind k m xs ys (omega arith)
@@ -38,7 +38,7 @@ module _ {B : Type 0} where
   pub broken_at : (k : ℕ) (xs ys : List B) (o : B) (r : ControlFlow B ℕ) → r ≡ Break o → at k xs ≡ Some o → Reached k (xs ++ ys) r
   broken_at k xs ys o r e h = subst (Reached k (xs ++ ys)) (sym e) (at_front_lem k xs ys o h)
 
-  at_end : (k m : ℕ) (xs : List B) → k ≡ length xs + m → None ≡ at k xs
+  pub at_end : (k m : ℕ) (xs : List B) → k ≡ length xs + m → None ≡ at k xs
   at_end zero m [] e = refl
   at_end (suc k) m [] e = refl
   at_end zero m (x ∷ xs) e = absurd (omega arith)

@@ -13,7 +13,7 @@ use Rattle.rows.specs.declared.written.WrittenRow.{WrittenRow}
 use Rattle.rows.specs.Firsts.{NoneBelow}
 use Rattle.rows.specs.Shapes.{Meets, dot}
 use Rattle.rows.specs.Zeros.{zero_numbers}
-use Rattle.rows.proofs.First.{is_first}
+use Rattle.rows.proofs.First.{is_first, none_at}
 use Rattle.records.specs.Records.{row_of}
 use Rattle.semantics.proofs.Gathering.{within_at}
 use Rattle.semantics.specs.Plans.{meets, unmet}
@@ -30,14 +30,16 @@ pub meets_decides : (point : List ℤ) (row : Numbers) → Decides (meets point 
 meets_decides point row = int_le-decides (dot row.coefficients point) row.bound
 
 -- none is unmet: all are met
-none_unmet : (point : List ℤ) (rows : List Numbers) → NoneBelow (unmet point rows) (length rows) → FirstUnmet point rows None
-none_unmet point rows n = record {
-  value = is_first (unmet point rows) (length rows) None n;
-  first = n;
-  all = All-from_get_or (Meets point) rows zero_numbers (λ i m. (meets_decides point (get_or rows i zero_numbers)).0 (not-false _ (n i m)));
-}
+pub none_unmet : (point : List ℤ) (rows : List Numbers) (k : ℕ) → length rows ≤ k → NoneBelow (unmet point rows) k → FirstUnmet point rows None
+none_unmet point rows k l h =
+    let n = none_at (unmet point rows) (length rows) k l h in
+    record {
+      value = is_first (unmet point rows) (length rows) None n;
+      first = n;
+      all = All-from_get_or (Meets point) rows zero_numbers (λ i m. (meets_decides point (get_or rows i zero_numbers)).0 (not-false _ (n i m)));
+    }
 
-some_unmet : (point : List ℤ) (rows : List Numbers) (k : ℕ) → k < length rows → unmet point rows k ≡ true → NoneBelow (unmet point rows) k → FirstUnmet point rows (Some k)
+pub some_unmet : (point : List ℤ) (rows : List Numbers) (k : ℕ) → k < length rows → unmet point rows k ≡ true → NoneBelow (unmet point rows) k → FirstUnmet point rows (Some k)
 some_unmet point rows k l u h = record {
   value = is_first (unmet point rows) (length rows) (Some k) (l, u, h);
   first = (l, u, h);
@@ -56,7 +58,7 @@ module _ (point : List ℤ) (rows : List WrittenRow) where
   pub first_unmet_found : (r : Option ℕ) → r ≡ position fails rows → IfSome r (λ i. i < length rows) → FirstUnmet point (map row_of rows) r
   first_unmet_found None e h =
       let n = length-map rows row_of in
-      none_unmet point (map row_of rows) (λ k l. let m : k < length rows = omega (arith, n, l) in fails_at k false m (λ d. fails_before_first fails rows k d (omega (arith, all, m))))
+      none_unmet point (map row_of rows) (length (map row_of rows)) (omega arith) (λ k l. let m : k < length rows = omega (arith, n, l) in fails_at k false m (λ d. fails_before_first fails rows k d (omega (arith, all, m))))
     where
       -- the search ends behind the last row
       all : length rows ≤ position_or_len fails rows

@@ -6,3 +6,4 @@ pub mod ArrayMaps
 pub mod Opposites
 pub mod Chains
 pub mod Equalities
+pub mod Offsets

@@ -1,8 +1,8 @@
-use Rattle.std.proofs.Common.{◌≡◌, ℕ, zero, suc, ◌+◌, ◌-◌, ◌^◌, ◌<◌, ◌≤◌, min, List, length, get_or, refl, sym, ap, ◌∙◌, subst, inl, inr, arith, rules}
+use Rattle.std.proofs.Common.{◌≡◌, ℕ, zero, suc, ◌+◌, ◌-◌, ◌^◌, ◌<◌, ◌≤◌, min, List, length, get_or, refl, ap, ◌∙◌, subst, inl, inr, arith, rules}
 use Rattle.std.specs.Fn.{Mut, Called}
 use Rattle.std.specs.Array.{IsFromFnResultFrom}
-use Rattle.std.proofs.lemmas.Bool.{cases_eq, cases_lt}
-use Rattle.std.proofs.lemmas.List.{get_or_past}
+use Rattle.std.proofs.lemmas.Bool.{cases_eq}
+use Rattle.rows.proofs.Offsets.{byte_capped}
 use Rattle.rows.proofs.bytes.bytes_at.Goals as goal
 
 -- each item of what `from_fn` makes is what the closure computes of its index
@@ -16,18 +16,9 @@ module _ {F : Type 0} (g : Mut F (ℕ × Unit {0}) ℕ) (f : F) (h : ℕ → ℕ
         | inr s ↦ each ys n (i + 1) q c.0 rest k (omega arith) (omega arith)
       ]
 
--- an index that stops at the largest stands past the end
-stopped : (bs : List ℕ) (n : ℕ) → length bs < 2 ^ 64 → get_or bs (min n (2 ^ 64 - 1)) 0 ≡ get_or bs n 0
-stopped bs n l = elim (cases_lt n (2 ^ 64 - 1)) [
-  | inl a ↦ let e : min n (2 ^ 64 - 1) ≡ n = omega arith in ap (λ (k : ℕ). get_or bs k 0) e
-  | inr b ↦
-      let e : min n (2 ^ 64 - 1) ≡ 2 ^ 64 - 1 = omega arith in
-      ap (λ (k : ℕ). get_or bs k 0) e ∙ get_or_past bs _ 0 (omega arith) ∙ sym (get_or_past bs n 0 (omega arith))
-]
-
 pub returns : goal.returns
 returns g c =
     let long : length c.args.bytes.now < 2 ^ 64 = search rules in
     λ k l. each _ _ (λ i. get_or c.args.bytes.now (c.args.at + i) 0) (λ i y q e.
     let s : y ≡ get_or c.args.bytes.now (min (c.args.at + i) (2 ^ 64 - 1)) 0 = search rules in
-    (search rules, s ∙ stopped c.args.bytes.now (c.args.at + i) long)) c.from_fn.result _ 0 _ refl c.from_fn.ensures.items.each k (omega arith) (omega (arith, l))
+    (search rules, s ∙ byte_capped c.args.bytes.now c.args.at i long)) c.from_fn.result _ 0 _ refl c.from_fn.ensures.items.each k (omega arith) (omega (arith, l))
