@@ -58,3 +58,7 @@ pub opening_passed : (count : ℕ) (sheet : List Numbers) (goal : Numbers) → O
 opening_passed count sheet goal e =
     let p = both (check (leb count (length sheet)) (fault_of TooManyFacts 0 0 0)) (opening (take count sheet) goal) (sym e) in
     (leb-true _ _ (check_true _ _ p.0), opening_yes _ _ p.1)
+
+-- the first half of that, which a search can apply by itself
+pub opening_within : (count : ℕ) (sheet : List Numbers) (goal : Numbers) → Ok tt ≡ opening_asked count sheet goal → count ≤ length sheet
+opening_within count sheet goal e = (opening_passed count sheet goal e).0

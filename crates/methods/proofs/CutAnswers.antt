@@ -7,15 +7,11 @@ use Rattle.rows.specs.declared.numbers.Numbers.{Numbers}
 use Rattle.rows.specs.Faults.{Said, fault_of, check, moved}
 use Rattle.rows.proofs.Chains.{stops, goes}
 use Rattle.methods.specs.Cuts.{cut_weights_from, cut_end, cut_row, cut_tests, cut_own}
-use Rattle.methods.specs.Openings.{most_facts, opening_asked}
+use Rattle.methods.specs.Openings.{most_facts}
 use Rattle.methods.specs.Questions.{question, Meaning}
-use Rattle.methods.proofs.Asked.{opening_passed}
 use Rattle.methods.proofs.LayerAnswers.{room_count}
 
-module _ (below : Meaning) (count : ℕ) (sheet : List Numbers) (goal : Numbers) (certificate : List ℕ) (opened : Ok tt ≡ opening_asked count sheet goal) where
-  within : count ≤ length sheet
-  within = (opening_passed count sheet goal opened).0
-
+module _ (below : Meaning) (count : ℕ) (sheet : List Numbers) (goal : Numbers) (certificate : List ℕ) (within : count ≤ length sheet) where
   pub own_no_room : (f : Fault) → Err f ≡ check (ltb count most_facts && ltb count (length sheet)) (fault_of NoRoomForFact 0 0 0) → Err f ≡ cut_own below (question (take count sheet) goal certificate (length sheet))
   unfolding cut_own
   own_no_room f e = stops _ _ f (e ∙ room_count count sheet goal certificate within)

@@ -10,6 +10,7 @@ use Rattle.rows.specs.declared.numbers.Numbers.{Numbers}
 use Rattle.rows.specs.Faults.{Said, Movable, moved}
 use Rattle.methods.specs.Questions.{question, Meaning, Lawful, asked}
 use Rattle.methods.proofs.AskAnswers.{placed_answer}
+use Rattle.methods.proofs.Asked.{asked_within}
 
 movable_from : (offset n : ℕ) (said : Said) → ((f : Fault) → said ≡ Err f → f.place ≤ n) → n + offset < 2 ^ 64 → Movable offset said
 movable_from offset n (Ok u) h l = tt
@@ -57,3 +58,11 @@ pub added_answer : (meaning : Meaning) (count : ℕ) (sheet : List Numbers) (fac
 added_answer meaning count sheet fact goal part offset r l e =
     e ∙ ap (λ (fs : List Numbers). moved offset (meaning (question fs goal part (length (set sheet count fact))))) (one_more count sheet fact l)
     ∙ ap (λ (n : ℕ). moved offset (meaning (question (take count sheet ++ fact ∷ []) goal part n))) (length-set sheet count fact)
+
+-- the same from what `ask_below` answers about the sheet with one more fact
+pub added_asked : (meaning : Meaning) (count : ℕ) (sheet : List Numbers) (fact goal : Numbers) (rest : List ℕ) (offset : ℕ) (r : Said) → count < length sheet →
+    r ≡ moved offset (asked meaning (count + 1) (set sheet count fact) goal rest) →
+    r ≡ moved offset (meaning (question (take count sheet ++ fact ∷ []) goal rest (length sheet)))
+added_asked meaning count sheet fact goal rest offset r l e =
+    let within : count + 1 ≤ length (set sheet count fact) = omega (arith, length-set sheet count fact) in
+    added_answer meaning count sheet fact goal rest offset r l (e ∙ ap (moved offset) (asked_within (count + 1) (set sheet count fact) goal rest meaning within))

@@ -16,11 +16,10 @@ use Rattle.rows.specs.WrittenMade.{WrittenFrom}
 use Rattle.rows.specs.Shapes.{Within, beyond, first_beyond, opposite_of}
 use Rattle.rows.proofs.Chains.{stops, goes, checked}
 use Rattle.rows.proofs.First.{none_first, some_first}
-use Rattle.methods.specs.Openings.{most_facts, opening_asked}
+use Rattle.methods.specs.Openings.{most_facts}
 use Rattle.methods.specs.Questions.{question, Meaning}
 use Rattle.methods.specs.SplitsAsk.{SplitMade, halves}
 use Rattle.methods.specs.Splits.{number_from, first_from, first_length, second_from, first_part, split_row, unless_written, split_tests, split_own}
-use Rattle.methods.proofs.Asked.{opening_passed}
 use Rattle.methods.proofs.LayerAnswers.{room_count}
 
 module _ (certificate : List ℕ) where
@@ -48,10 +47,7 @@ module _ (certificate : List ℕ) where
   row_made numbers (Err x) (Ok row) l e w h = absurd h
   row_made numbers (Err x) (Err f) l e w h = ap (λ (y : Fault). Err y) h ∙ row_too_large numbers x.item l e w
 
-module _ (below : Meaning) (count : ℕ) (sheet : List Numbers) (goal : Numbers) (certificate : List ℕ) (opened : Ok tt ≡ opening_asked count sheet goal) where
-  within : count ≤ length sheet
-  within = (opening_passed count sheet goal opened).0
-
+module _ (below : Meaning) (count : ℕ) (sheet : List Numbers) (goal : Numbers) (certificate : List ℕ) (within : count ≤ length sheet) where
   pub own_no_room : (f : Fault) → Err f ≡ check (ltb count most_facts && ltb count (length sheet)) (fault_of NoRoomForFact 0 0 0) → Err f ≡ split_own below (question (take count sheet) goal certificate (length sheet))
   unfolding split_own
   own_no_room f e = stops _ _ f (e ∙ room_count count sheet goal certificate within)

@@ -1,7 +1,7 @@
 -- The loop that adds up multiplier × number over the facts: what it has after i facts, and that it fits 64 bits.
-use Rattle.std.proofs.Common.{◌≡◌, ℕ, ◌+◌, ◌*◌, ◌<◌, ◌≤◌, List, [], ◌∷◌, ◌++◌, length, get_or, take, ℤ, pos, ◌+ℤ◌, ◌*ℤ◌, sym, ap, ◌∙◌, subst, arith, lit<, inl, inr, w64, SFits, to_z, of_z}
+use Rattle.std.proofs.Common.{◌≡◌, ℕ, ◌+◌, ◌*◌, ◌<◌, ◌≤◌, List, [], ◌∷◌, ◌++◌, length, get_or, take, ℤ, pos, ◌+ℤ◌, ◌*ℤ◌, neg_ℤ, ◌≤ℤ◌, sym, ap, ◌∙◌, subst, arith, lit<, inl, inr, w64, SFits, to_z, of_z}
 use Rattle.std.proofs.ByRecursion.{All-get_or}
-use Rattle.std.proofs.lemmas.List.{take_more, length-take-le}
+use Rattle.std.proofs.lemmas.List.{take_more, take_all, length-take-le}
 use Rattle.std.proofs.lemmas.Bool.{cases_lt}
 use Rattle.std.proofs.lemmas.Int.{ints, to_z-of_z}
 use Rattle.rows.specs.declared.limits.Limit.TheVariants.{RowNumber}
@@ -87,16 +87,40 @@ module _ (item : ℕ) (bytes : List ℕ) (at : ℕ) (facts : List Numbers) (i : 
         };
       }
 
--- what the code's product of the goal's multiplier and number computes, at 64 bits
-module _ (m x : ℤ) (certificate : List ℕ) (from : ℕ) (goal : Numbers) (weight item : ℕ) (c : Comparable certificate from goal weight) (fm : SFits w64 m) (fx : SFits w64 x) (em : m ≡ pos weight) (ex : x ≡ item_of goal item) where
-  product : to_z w64 (of_z w64 m) *ℤ to_z w64 (of_z w64 x) ≡ pos weight *ℤ item_of goal item
-  product = rw (to_z-of_z w64 m fm, to_z-of_z w64 x fx, em, ex)
+  -- the same as a search applies it, goal by goal
+  module _ (bits : ℕ) (m x : ℤ) (w : Weighable bytes at facts) (l : i < length facts) (em : m ≡ pos (word_at bytes (at + 2 * i))) (ex : x ≡ item_of (get_or facts i d) item) (t : Turn item bytes at facts i (to_z w64 bits)) where
+    pub turn_sum : to_z w64 (of_z w64 (to_z w64 bits +ℤ to_z w64 (of_z w64 (to_z w64 (of_z w64 m) *ℤ to_z w64 (of_z w64 x))))) ≡ weighted item bytes at (take (i + 1) facts)
+    turn_sum = (coded bits m x w l em ex t).again.so_far
 
-  fits : SFits w64 (pos weight *ℤ item_of goal item)
-  fits = bounded_fits most_product _ (lit< tt) (product_bounded most_weight (magnitude_of RowNumber) _ _ (weight_bounded weight c.weight_most) (item_bounded (magnitude_of RowNumber) goal c.is_row item))
+    pub turn_low : neg_ℤ (pos ((i + 1) * most_product)) ≤ℤ to_z w64 (of_z w64 (to_z w64 bits +ℤ to_z w64 (of_z w64 (to_z w64 (of_z w64 m) *ℤ to_z w64 (of_z w64 x)))))
+    turn_low = (coded bits m x w l em ex t).again.small.low
+
+    pub turn_high : to_z w64 (of_z w64 (to_z w64 bits +ℤ to_z w64 (of_z w64 (to_z w64 (of_z w64 m) *ℤ to_z w64 (of_z w64 x))))) ≤ℤ pos ((i + 1) * most_product)
+    turn_high = (coded bits m x w l em ex t).again.small.high
+
+-- after all facts the sum is the weighted one
+pub turn_end : (item : ℕ) (bytes : List ℕ) (at : ℕ) (facts : List Numbers) (i : ℕ) (sum : ℤ) → Turn item bytes at facts i sum → length facts ≤ i → sum ≡ weighted item bytes at facts
+turn_end item bytes at facts i sum t l = t.so_far ∙ ap (weighted item bytes at) (take_all i facts l)
+
+-- what the code's `m * x` computes, at 64 bits, for a multiplier and a number of a row
+pub record Multiplied (m x a b : ℤ) : Type 0 where
+  pub fits : SFits w64 (to_z w64 (of_z w64 m) *ℤ to_z w64 (of_z w64 x))
+  pub is : to_z w64 (of_z w64 (to_z w64 (of_z w64 m) *ℤ to_z w64 (of_z w64 x))) ≡ a *ℤ b
+
+pub multiplied : (m x : ℤ) (n : ℕ) (b : ℤ) → n ≤ most_weight → Bounded (magnitude_of RowNumber) b → SFits w64 m → SFits w64 x → m ≡ pos n → x ≡ b → Multiplied m x (pos n) b
+multiplied m x n b l h fm fx em ex =
+    let p = product_bounded most_weight (magnitude_of RowNumber) (pos n) b (weight_bounded n l) h in
+    let f = bounded_fits most_product (pos n *ℤ b) (lit< tt) p in
+    let e : to_z w64 (of_z w64 m) *ℤ to_z w64 (of_z w64 x) ≡ pos n *ℤ b = rw (to_z-of_z w64 m fm, to_z-of_z w64 x fx, em, ex) in
+    record { fits = subst (SFits w64) (sym e) f; is = ap (λ (z : ℤ). to_z w64 (of_z w64 z)) e ∙ to_z-of_z w64 _ f }
+
+-- the same of the goal's multiplier and number
+module _ (m x : ℤ) (certificate : List ℕ) (from : ℕ) (goal : Numbers) (weight item : ℕ) (c : Comparable certificate from goal weight) (fm : SFits w64 m) (fx : SFits w64 x) (em : m ≡ pos weight) (ex : x ≡ item_of goal item) where
+  of_goal : Multiplied m x (pos weight) (item_of goal item)
+  of_goal = multiplied m x weight (item_of goal item) c.weight_most (item_bounded (magnitude_of RowNumber) goal c.is_row item) fm fx em ex
 
   pub scaled_fits : SFits w64 (to_z w64 (of_z w64 m) *ℤ to_z w64 (of_z w64 x))
-  scaled_fits = subst (SFits w64) (sym product) fits
+  scaled_fits = of_goal.fits
 
   pub scaled_is : to_z w64 (of_z w64 (to_z w64 (of_z w64 m) *ℤ to_z w64 (of_z w64 x))) ≡ scaled goal certificate item
-  scaled_is = ap (λ (z : ℤ). to_z w64 (of_z w64 z)) product ∙ to_z-of_z w64 _ fits ∙ ap (λ (n : ℕ). pos n *ℤ item_of goal item) c.written
+  scaled_is = of_goal.is ∙ ap (λ (n : ℕ). pos n *ℤ item_of goal item) c.written

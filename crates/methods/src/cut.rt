@@ -105,7 +105,7 @@ fn cut_row(facts: &[Numbers], certificate: &[u8]) -> Result<Numbers, Fault>
 impl<M: ProofMethod> Cut<M> {
     // The layer's own part of a question: the row is made and becomes the last fact below.
     // What is asked of count and sheet stands in no struct of both: each layer lends the sheet on with another count.
-    #[tactic(auto, using(crate::proofs::CutAnswers::own_no_row, crate::proofs::CutAnswers::own_asked_lem))]
+    #[tactic(auto, using(crate::proofs::Asked::opening_within, crate::proofs::CutAnswers::own_no_row, crate::proofs::CutAnswers::own_asked_lem))]
     fn own(&self, sheet: &mut [Numbers], claim: Claim<'_>) -> Answer
         requires { Ok tt ≡ opening_asked claim.count sheet.old claim.goal.now }
         ensures answer { result ≡ cut_own (M.ProofMethod.meaning self.now.below) (asking (take claim.entry.count sheet.old) claim.entry.goal.now claim.entry.certificate.now (length sheet.old)) }

@@ -43,14 +43,16 @@ pub(crate) fn room_test(count: usize, rows: usize) -> Answer
 }
 
 // Puts the claim to the method below by the certificate from an offset on; a fault moves by the offset.
-// Apart from `ask_below`: inside it the clause `answer` stayed open, since no search applied the lemma on places.
+// Apart from `ask_below`, which shows that the places can be moved: inside it the clause `answer` stayed open, since no
+// search applied the lemma on places.
 fn put_below<M: ProofMethod>(
     below: &M,
     sheet: &mut [Numbers],
     claim: Claim<'_>,
     offset: usize,
 ) -> Answer
-    ensures answer { let said = asked (M.ProofMethod.meaning below.now) claim.entry.count sheet.old claim.entry.goal.now (drop offset claim.entry.certificate.now) in Movable offset said → result ≡ moved_by offset said }
+    requires { Movable offset (asked (M.ProofMethod.meaning below.now) claim.count sheet.old claim.goal.now (drop offset claim.certificate.now)) }
+    ensures answer { result ≡ moved_by offset (asked (M.ProofMethod.meaning below.now) claim.entry.count sheet.old claim.entry.goal.now (drop offset claim.entry.certificate.now)) }
     ensures kept { take claim.entry.count sheet.new ≡ take claim.entry.count sheet.old }
 {
     let answer = below.question(sheet, claim.skip(offset));
@@ -72,7 +74,7 @@ pub fn ask_below<M: ProofMethod>(
 
 // The same with one more fact, which is put behind the others.
 // What is asked of count and sheet stands in no struct of both: each layer lends the sheet on with another count.
-#[tactic(auto, using(crate::proofs::Handing::kept_under))]
+#[tactic(auto, using(crate::proofs::Handing::kept_under, crate::proofs::Handing::added_asked))]
 pub(crate) fn ask_with_fact<M: ProofMethod>(
     below: &M,
     sheet: &mut [Numbers],

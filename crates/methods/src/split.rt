@@ -1,6 +1,5 @@
 // The split, a layer: the goal is shown below with a row as one more fact, and then with the row's opposite.
 ghost use Rattle.std.specs.Prelude.{◌≡◌, ℕ, ◌<◌, ◌≤◌, length, take};
-ghost use Rattle.methods.specs.Openings.{opening_asked};
 ghost use Rattle.methods.specs.Questions.{asked, question as asking, YesExactly};
 ghost use Rattle.methods.specs.SplitLaws.{split_lawful};
 ghost use Rattle.methods.specs.Splits.{split_row, split_own, split_says, SplitYes};
@@ -85,7 +84,7 @@ impl<M: ProofMethod> Split<M> {
     // The layer's own part of a question: the method below is asked with the row, and after a yes with its opposite.
     #[tactic(auto, using(crate::proofs::SplitAnswers::own_no_row, crate::proofs::SplitAnswers::own_both))]
     fn own(&self, sheet: &mut [Numbers], claim: Claim<'_>) -> Answer
-        requires { Ok tt ≡ opening_asked claim.count sheet.old claim.goal.now }
+        requires { claim.count ≤ length sheet.old }
         ensures answer { result ≡ split_own (M.ProofMethod.meaning self.now.below) (asking (take claim.entry.count sheet.old) claim.entry.goal.now claim.entry.certificate.now (length sheet.old)) }
         ensures kept { take claim.entry.count sheet.new ≡ take claim.entry.count sheet.old }
     {

@@ -63,6 +63,7 @@ impl<'a> WeightedFacts<'a> {
     }
 
     // The sum over the facts, in their order, of multiplier × the fact's number of an item.
+    #[tactic(auto, using(crate::proofs::WeightedSums::turn_sum, crate::proofs::WeightedSums::turn_low, crate::proofs::WeightedSums::turn_high))]
     pub(crate) fn sum(&self, item: usize) -> i64
         ensures { result ≡ weighted item self.now.certificate.now self.now.from self.now.facts.now }
     {

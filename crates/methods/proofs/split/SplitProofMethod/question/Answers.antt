@@ -4,6 +4,7 @@ use Rattle.methods.specs.declared.layer.FirstByte.{FirstByte}
 use Rattle.methods.specs.Splits.{split_own, split_says}
 use Rattle.methods.specs.Questions.{asked}
 use Rattle.methods.proofs.SplitsExactly.{split_exactly}
+use Rattle.methods.proofs.Asked.{opening_within}
 use Rattle.methods.proofs.LayerAnswers.{layer_stops, layer_byte, layer_handed, layer_own}
 use Rattle.methods.proofs.split.SplitProofMethod.question.Goals as goal
 
@@ -28,6 +29,9 @@ returns-in-HandDown g c =
     let m = g.M.ProofMethod.meaning c.args.self.now.below in
     let a = layer_handed split_own m c.args.claim.count c.args.sheet.now c.args.claim.goal.now c.args.claim.certificate.now c.in_ok-opening.ensures.0 _ (ap (λ (b : FirstByte). Ok b) (sym c.in-HandDown.is) ∙ c.in_ok-read.ensures) c.ask_below.ensures.answer in
     record { answer = a; kept = c.ask_below.ensures.kept; exactly = split_exactly m _ _ _ _ _ a }
+
+pub own-requires : goal.own-requires
+own-requires g c = opening_within _ _ _ c.in_ok-opening.ensures.0
 
 pub returns-in-Own : goal.returns-in-Own
 returns-in-Own g c =

@@ -10,6 +10,3 @@ overflow_mul-sum c = (turned c).step.product
 
 pub overflow_add-sum : goal.overflow_add-sum
 overflow_add-sum c = (turned c).step.added
-
-pub loop-index-preserved : goal.loop-index-preserved
-loop-index-preserved c = (turned c).again
