@@ -24,18 +24,26 @@ fn is_used(coefficient: i64) -> bool
     coefficient != 0
 }
 
-// The lowest column in which the goal's is not.
-fn first_used(goal: &Numbers) -> Option<usize>
-    ensures value { result ≡ first_below (uses goal.now) columns }
-    ensures first { IsFirst (uses goal.now) columns result }
+// Where the search over the goal's coefficients ends.
+// Apart from `first_used`, so that what the search finds is shown of it alone.
+fn used_index(goal: &Numbers) -> Option<usize>
+    ensures { IsFirst (uses goal.now) columns result }
 {
     goal.coefficients
         .iter()
         .position(|coefficient| is_used(*coefficient))
 }
 
+// The lowest column in which the goal's is not.
+fn first_used(goal: &Numbers) -> Option<usize>
+    ensures value { result ≡ first_below (uses goal.now) columns }
+    ensures first { IsFirst (uses goal.now) columns result }
+{
+    used_index(goal)
+}
+
 // Whether no column is used; the first that is one is the fault.
-// Not by the columns test of `methods`: that one takes a closure, asks that it can be called, and so is not public.
+// Not by the one of `methods`: that asks that what was found is a column, and so is not public.
 fn columns_test(goal: &Numbers) -> Answer
     ensures { result ≡ unless_found ColumnDiffers (first_below (uses goal.now) columns) }
 {

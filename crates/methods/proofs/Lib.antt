@@ -1,7 +1,6 @@
 pub mod RowTests
 pub mod WeightTests
 pub mod WeightedSums
-pub mod FirstColumn
 pub mod Asked
 pub mod AskAnswers
 pub mod SumsExactly

@@ -1,21 +1,18 @@
 // Tests on the columns of rows.
-ghost use Rattle.std.specs.Prelude.{◌≡◌, ℕ, ◌<◌, Bool};
+ghost use Rattle.std.specs.Prelude.{◌≡◌, ◌<◌, IfSome};
 ghost use Rattle.rows.specs.Faults.{unless_found};
-ghost use Rattle.rows.specs.Firsts.{first_below};
 ghost use Rattle.rows.specs.Limits.{columns};
 ghost use Rattle.rows.specs.declared.fault.FaultKind.TheVariants.{ColumnDiffers};
 
-use rows::limits::COLUMNS;
 use rows::{Answer, Fault, FaultKind};
 
-// Whether no column differs; the first that does is the fault.
-pub(crate) fn columns_test<F: Fn(usize) -> bool>(differs: F) -> Answer
-    requires { F.IsAlwaysCallable differs }
-    ensures { (test : ℕ → Bool) → ((k : ℕ) (r : Bool) → k < columns → F.post differs k r → r ≡ test k) → result ≡ unless_found ColumnDiffers (first_below test columns) }
+// Whether no column differs, by the lowest that does: that one is the fault.
+// It takes what was found and not the test of a column, since of a test that is handed in no search shows what `find` gives.
+pub(crate) fn none_differs(first: Option<usize>) -> Answer
+    requires { IfSome first (λ column. column < columns) }
+    ensures { result ≡ unless_found ColumnDiffers first }
 {
-    (0..COLUMNS)
-        .find(|column| differs(*column))
-        .map_or(Ok(()), |column| {
-            Err(Fault::with_item(FaultKind::ColumnDiffers, column as u8))
-        })
+    first.map_or(Ok(()), |column| {
+        Err(Fault::with_item(FaultKind::ColumnDiffers, column as u8))
+    })
 }

@@ -1,5 +1,6 @@
 // The cut, a layer: a weighted sum of the facts, divided and its bound rounded down, becomes one more fact below.
-ghost use Rattle.std.specs.Prelude.{◌≡◌, ℕ, length, take};
+ghost use Rattle.std.specs.Prelude.{◌≡◌, ℕ, ◌<◌, length, take, find, IfSome};
+ghost use Rattle.std.specs.List.{range_with_len};
 ghost use Rattle.methods.specs.CutLaws.{cut_lawful};
 ghost use Rattle.methods.specs.Cuts.{divided, indivisible, divides_say, cut_row, cut_own, cut_says, CutYes};
 ghost use Rattle.methods.specs.CutsAsk.{Divisible, CutMade};
@@ -9,7 +10,7 @@ ghost use Rattle.methods.specs.Weighing.{Rows};
 ghost use Rattle.rows.specs.Limits.{columns};
 
 use crate::claim::Claim;
-use crate::columns::columns_test;
+use crate::columns::none_differs;
 use crate::layer::{FirstByte, ask_below, ask_with_fact, room_test};
 use crate::method::ProofMethod;
 use crate::opening::opening;
@@ -54,11 +55,20 @@ impl DividedFacts<'_> {
         sum.rem_euclid(i64::from(self.divisor)) != 0
     }
 
+    // The lowest column whose sum is no multiple of the divisor.
+    // Apart from `columns_test`, so that its clauses say which columns are looked at.
+    fn first_indivisible(&self) -> Option<usize>
+        ensures found { result ≡ find (indivisible self.now.weighted.facts.now self.now.weighted.certificate.now) (range_with_len 0 columns) }
+        ensures within { IfSome result (λ column. column < columns) }
+    {
+        (0..COLUMNS).find(|column| self.indivisible(*column))
+    }
+
     // Whether every column's sum is a multiple of the divisor; the first that is not is the fault.
     fn columns_test(&self) -> Answer
         ensures { result ≡ divides_say self.now.weighted.facts.now self.now.weighted.certificate.now }
     {
-        columns_test(|column| self.indivisible(column))
+        none_differs(self.first_indivisible())
     }
 
     // The facts' sum of bounds, divided and rounded down.

@@ -1,15 +1,17 @@
 // The multiplier method: a weighted sum of the facts is a multiple of the goal.
-ghost use Rattle.std.specs.Prelude.{◌≡◌, ℕ, take, Err};
+ghost use Rattle.std.specs.Prelude.{◌≡◌, ℕ, ◌<◌, take, Err, find, IfSome};
+ghost use Rattle.std.specs.List.{range_with_len};
 ghost use Rattle.methods.specs.Openings.{Opened};
 ghost use Rattle.methods.specs.Questions.{asked, YesExactly};
 ghost use Rattle.methods.specs.Sums.{scaled, differs, columns_say, bound_says, sums_say, multipliers_say, MultipliersYes};
 ghost use Rattle.methods.specs.SumsAsk.{Comparable};
 ghost use Rattle.methods.specs.SumsLaws.{multipliers_lawful};
 ghost use Rattle.rows.specs.Faults.{Stated};
+ghost use Rattle.rows.specs.Limits.{columns};
 ghost use Rattle.rows.specs.declared.fault.Fault.{Fault};
 
 use crate::claim::Claim;
-use crate::columns::columns_test;
+use crate::columns::none_differs;
 use crate::method::ProofMethod;
 use crate::opening::opening;
 use crate::weights::{WeightedFacts, weight_at};
@@ -48,11 +50,20 @@ impl Comparison<'_> {
         self.weighted.sum(column) != self.scaled(column)
     }
 
+    // The lowest column in which the facts' sum is not the goal's multiple.
+    // Apart from `columns_test`, so that its clauses say which columns are looked at.
+    fn first_differing(&self) -> Option<usize>
+        ensures found { result ≡ find (differs self.now.weighted.facts.now self.now.goal.now self.now.weighted.certificate.now) (range_with_len 0 columns) }
+        ensures within { IfSome result (λ column. column < columns) }
+    {
+        (0..COLUMNS).find(|column| self.differs(*column))
+    }
+
     // Whether the facts' sum is the goal's multiple in every column; the first column in which it is not is the fault.
     fn columns_test(&self) -> Answer
         ensures { result ≡ columns_say self.now.weighted.facts.now self.now.goal.now self.now.weighted.certificate.now }
     {
-        columns_test(|column| self.differs(column))
+        none_differs(self.first_differing())
     }
 
     // Whether the facts' sum of bounds is at most the goal's multiple.
