@@ -6,6 +6,7 @@ pub mod AskAnswers
 pub mod SumsExactly
 pub mod Listed
 pub mod Handing
+pub mod Divisions
 pub mod Tabulated
 pub mod LayerAnswers
 pub mod CutsExactly
