@@ -1,6 +1,7 @@
 -- What a command says, with the text in the place of the reference to it.
 use Rattle.std.specs.Prelude.{Ok, Err, Result}
 use Rattle.words.specs.declared.errors.LineError.{LineError}
+pub use Rattle.words.specs.Read.{left, word_in}
 use Rattle.commands.specs.declared.parser.Command.{Command}
 use Rattle.commands.specs.declared.parser.Command.TheVariants.{Nothing, Sheet, Fact, Goal, Forget, Row, Ask}
 use Rattle.commands.specs.Lines.{Line, nothing, set_sheet, add_fact, set_goal, forget_all, make_row, ask_method}

@@ -83,7 +83,7 @@ gathered_map f plain [] = refl
 gathered_map f plain (x ∷ xs) = ap (λ (zs : List _). f (plain x) ++ zs) (gathered_map f plain xs)
 
 -- i lists are counted through, and the next has the place that is left
-counted_at : {A B : Type 0} (f : A → List B) (xs : List A) (k i left : ℕ) (x : A) (o : B) → k ≡ length (gathered f (take i xs)) + left → i < length xs → x ≡ get_or xs i x → at left (f x) ≡ Some o → at k (gathered f xs) ≡ Some o
+pub counted_at : {A B : Type 0} (f : A → List B) (xs : List A) (k i left : ℕ) (x : A) (o : B) → k ≡ length (gathered f (take i xs)) + left → i < length xs → x ≡ get_or xs i x → at left (f x) ≡ Some o → at k (gathered f xs) ≡ Some o
 counted_at f xs k i left x o n l e p =
     ap (λ (zs : List _). at k (gathered f zs)) (sym (take-append-drop i xs))
     ∙ ap (at k) (gathered_append f (take i xs) (drop i xs))
