@@ -43,16 +43,14 @@ pub(crate) fn room_test(count: usize, rows: usize) -> Answer
 }
 
 // Puts the claim to the method below by the certificate from an offset on; a fault moves by the offset.
-// Apart from `ask_below`, which shows that the places can be moved: inside it the clause `answer` stayed open, since no
-// search applied the lemma on places.
+// Apart from `ask_below`: inside it the clause `answer` stayed open, since no search applied the lemma on places.
 fn put_below<M: ProofMethod>(
     below: &M,
     sheet: &mut [Numbers],
     claim: Claim<'_>,
     offset: usize,
 ) -> Answer
-    requires { Movable offset (asked (M.ProofMethod.meaning below.now) claim.count sheet.old claim.goal.now (drop offset claim.certificate.now)) }
-    ensures answer { result ≡ moved_by offset (asked (M.ProofMethod.meaning below.now) claim.entry.count sheet.old claim.entry.goal.now (drop offset claim.entry.certificate.now)) }
+    ensures answer { let said = asked (M.ProofMethod.meaning below.now) claim.entry.count sheet.old claim.entry.goal.now (drop offset claim.entry.certificate.now) in Movable offset said → result ≡ moved_by offset said }
     ensures kept { take claim.entry.count sheet.new ≡ take claim.entry.count sheet.old }
 {
     let answer = below.question(sheet, claim.skip(offset));
